@@ -1,0 +1,28 @@
+-- `cells::scan` meets its contract.
+use mathlib.Core.Path.{_≡_, refl, sym, ap, _∙_}
+use borrow.Author.Tests.{not-true, not-false}
+use Rattle.cells.specs.Cells.{scanOf}
+use borrow.Author.Needs.{needs}
+use Rattle.cells.proofs.scan.Statement.{statement}
+use Rattle.cells.proofs.scan.Tie as tie
+
+is-whole-requires : tie.Need-is-whole-requires
+is-whole-requires c κs = search needs
+
+returns : tie.Need-returns
+unfolding scanOf
+returns c = rw (sym (c .before .is-whole .ensures) ∙ not-true _ (c .if1 .taken)) refl
+
+leading-cells-requires : tie.Need-leading-cells-requires
+leading-cells-requires c κs = search needs
+
+judge-requires : tie.Need-judge-requires
+judge-requires c κs = search needs
+
+returns-2 : tie.Need-returns-2
+unfolding scanOf
+returns-2 c = rw (sym (c .before .before .before .is-whole .ensures) ∙ not-false _ (c .before .before .if1 .left)) (rw (← c .before .leading-cells .ensures) (c .judge .ensures))
+
+pub scan-spec : {M : Type 1} → statement M
+scan-spec =
+    tie.close (tie.spec is-whole-requires returns leading-cells-requires judge-requires returns-2)

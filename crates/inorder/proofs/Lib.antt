@@ -1,0 +1,7 @@
+-- Laws that belong to no one function.
+pub mod Stops
+pub mod Storing
+pub mod Running
+pub mod Entering
+pub mod Laws
+pub mod Examples

@@ -1,0 +1,102 @@
+-- The in-order machine: the rules of the memo's section 4.
+use mathlib.Core.Path.{_≡_}
+use Prim.Native.Nat.{ℕ, zero, suc}
+use mathlib.Core.List.{List}
+use mathlib.Core.Option.{Option}
+use lib.ListN.{getD, set, replicate, getElem?}
+use Rattle.records.specs.Try.{Try, got, fails}
+use Rattle.value.specs.declared.Value.{Value}
+use Rattle.value.specs.declared.Value.the-variants.{Undefined, Word}
+use Rattle.value.specs.Operation.{result}
+use Rattle.isa.specs.declared.InstrAddr.{InstrAddr}
+use Rattle.isa.specs.declared.Reg.{Reg}
+use Rattle.isa.specs.declared.Instr.{Instr}
+use Rattle.isa.specs.declared.Instr.the-variants.{Loadc, Loadpc, Op, Jz, Load, Store}
+use Rattle.isa.specs.Instruction.{registers}
+use Rattle.isa.specs.Program.{present}
+use Rattle.cells.specs.Cells.{cells, Formed}
+use Rattle.kernel.specs.Kernel.{instrAddr, next, readAt, writeAt, branch, Run, going, stopped, attempt}
+use Rattle.inorder.specs.declared.Register.{Register}
+use Rattle.inorder.specs.declared.InOrder.{InOrder}
+use Rattle.inorder.specs.declared.Stepped.{Stepped}
+
+-- ---- registers: rf[r] and rf[r := v]
+
+abbrev pub register : Value → Register
+register v = record { value = v }
+
+abbrev pub held : List Register → Reg → Value
+held rf r = getD rf (r .0) (register Undefined) .value
+
+abbrev pub put : List Register → Reg → Value → List Register
+put rf r v = set rf (r .0) (register v)
+
+-- ---- one instruction
+
+-- at address ia, with registers rf and memory m
+abbrev pub perform : List Register → InstrAddr → List Value → Instr → Run (List Register)
+perform rf ia m (Loadc r k) = going (put rf r (Word k)) (next ia) m
+perform rf ia m (Loadpc r) = going (put rf r (Word (ia .0))) (next ia) m
+perform rf ia m (Op r n r1 r2) = going (put rf r (result n (held rf r1) (held rf r2))) (next ia) m
+perform rf ia m (Jz r1 r2) = attempt ia m (λ to. going rf to m) (branch ia (held rf r1) (held rf r2))
+perform rf ia m (Load r r1) = attempt ia m (λ v. going (put rf r v) (next ia) m) (readAt m (held rf r1))
+perform rf ia m (Store r1 r2) = attempt ia m (λ m′. going rf (next ia) m′) (writeAt m (held rf r1) (held rf r2))
+
+-- the instruction that was fetched, if there is one
+abbrev pub execute : List Register → InstrAddr → List Value → Try Instr → Run (List Register)
+execute rf ia m i = attempt ia m (perform rf ia m) i
+
+-- ---- the machine
+
+abbrev pub machine : InstrAddr → List Register → InOrder
+machine ia rf = record { counter = ia; registers = rf }
+
+abbrev pub start : InOrder
+start = machine (instrAddr 0) (replicate registers (register Undefined))
+
+-- a program's step; a run that stopped stays stopped
+unfoldable pub step : List Instr → Run (List Register) → Run (List Register)
+step prog (going rf ia m) = execute rf ia m (present (getElem? prog (ia .0)))
+step prog (stopped ia n m) = stopped ia n m
+
+-- so many steps
+abbrev pub steps : List Instr → ℕ → Run (List Register) → Run (List Register)
+steps prog zero t = t
+steps prog (suc n) t = steps prog n (step prog t)
+
+-- one step of the machine s
+abbrev pub once : List Instr → InOrder → List Value → Run (List Register)
+once prog s m = step prog (going (s .registers) (s .counter) m)
+
+-- ---- what the code answers
+
+abbrev pub moved : InOrder → InstrAddr → Stepped
+moved s ia = record { machine = machine ia (s .registers); stop = 0; number = 0 }
+
+abbrev pub halted : InOrder → ℕ → Stepped
+halted s n = record { machine = s; stop = n; number = 0 }
+
+-- the machine moved on, or stopped as it was
+abbrev pub after : InOrder → Run (List Register) → Stepped
+after s (going rf ia m) = moved (machine ia rf) ia
+after s (stopped ia n m) = halted s n
+
+abbrev pub memory : {E : Type 0} → Run E → List Value
+memory (going e ia m) = m
+memory (stopped ia n m) = m
+
+-- the three rules that may stop, of the machine s with operands that were read
+abbrev pub jumps : InOrder → List Value → Value → Value → Run (List Register)
+jumps s m c to = attempt (s .counter) m (λ ia. going (s .registers) ia m) (branch (s .counter) c to)
+
+abbrev pub loads : InOrder → List Value → Reg → Value → Run (List Register)
+loads s m r a = attempt (s .counter) m (λ v. going (put (s .registers) r v) (next (s .counter)) m) (readAt m a)
+
+abbrev pub stores : InOrder → List Value → Value → Value → Run (List Register)
+stores s m a v = attempt (s .counter) m (λ m′. going (s .registers) (next (s .counter)) m′) (writeAt m a v)
+
+-- r and memory b′ are what a run of the machine s on memory b came to
+pub record Does (s : InOrder) (t : Run (List Register)) (b : List ℕ) (r : Stepped) (b′ : List ℕ) : Type 0 where
+  pub answer : r ≡ after s t
+  pub holds : cells b′ ≡ memory t
+  pub formed : Formed b → Formed b′

@@ -1,0 +1,205 @@
+// The AX instruction set: its four spaces, its instructions, their records, and the scan of a program.
+ghost use mathlib.Core.Path.{_≡_};
+ghost use Rattle.records.specs.Records.{records};
+ghost use Rattle.records.specs.Scan.{leading};
+ghost use Rattle.isa.specs.Instruction.{isFormed, ifFormed, parse, answer, readOf, recordOf};
+ghost use Rattle.isa.specs.Program.{fetched, isInstr, scanOf, Wrote};
+use records::Found;
+use records::Record;
+use records::Verdict;
+use records::refusal;
+
+// A place in the program.
+pub struct InstrAddr(pub u32);
+
+// A place in memory.
+pub struct DataAddr(pub u32);
+
+// The name of a register.
+pub struct Reg(pub u8);
+
+// A renaming tag; 0 means no tag.
+pub struct Tag(pub u8);
+
+// The destination stands first, as in the listing.
+pub enum Instr {
+    Loadc(Reg, u32),
+    Loadpc(Reg),
+    Op(Reg, u8, Reg, Reg),
+    Jz(Reg, Reg),
+    Load(Reg, Reg),
+    Store(Reg, Reg),
+}
+
+// The instruction that was read, or the number for no.
+pub enum Reading {
+    Is(Instr),
+    Refused(u8),
+}
+
+fn is_formed(i: Instr) -> bool
+    ensures { λ r. ⌜ r ≡ isFormed i ⌝ }
+{
+    match i {
+        Instr::Loadc(r, _) => r.0 < 32,
+        Instr::Loadpc(r) => r.0 < 32,
+        Instr::Op(r, op, r1, r2) => (r.0 < 32) & (r1.0 < 32) & (r2.0 < 32) & (op <= 4),
+        Instr::Jz(r1, r2) => (r1.0 < 32) & (r2.0 < 32),
+        Instr::Load(r, r1) => (r.0 < 32) & (r1.0 < 32),
+        Instr::Store(r1, r2) => (r1.0 < 32) & (r2.0 < 32),
+    }
+}
+
+// The instruction, if the bytes that it doesn't use are zero and it is well formed.
+fn if_formed(unused: bool, i: Instr) -> Reading
+    ensures { λ r. ⌜ r ≡ answer (ifFormed unused i) ⌝ }
+{
+    if unused & is_formed(i) {
+        Reading::Is(i)
+    } else {
+        Reading::Refused(refusal::BAD_INSTRUCTION)
+    }
+}
+
+fn parse(r: Record) -> Reading
+    ensures { λ a. ⌜ a ≡ answer (parse r) ⌝ }
+{
+    let code = r.b0;
+    let k = r.word;
+    match code {
+        1 => if_formed((r.b2 == 0) & (r.b3 == 0), Instr::Loadc(Reg(r.b1), k)),
+        2 => if_formed(
+            (r.b2 == 0) & (r.b3 == 0) & (k == 0),
+            Instr::Loadpc(Reg(r.b1)),
+        ),
+        3 => {
+            if k <= 4 {
+                if_formed(true, Instr::Op(Reg(r.b1), k as u8, Reg(r.b2), Reg(r.b3)))
+            } else {
+                Reading::Refused(refusal::BAD_INSTRUCTION)
+            }
+        }
+        4 => if_formed((r.b1 == 0) & (k == 0), Instr::Jz(Reg(r.b2), Reg(r.b3))),
+        5 => if_formed((r.b3 == 0) & (k == 0), Instr::Load(Reg(r.b1), Reg(r.b2))),
+        6 => if_formed((r.b1 == 0) & (k == 0), Instr::Store(Reg(r.b2), Reg(r.b3))),
+        _ => Reading::Refused(refusal::BAD_INSTRUCTION),
+    }
+}
+
+// The instruction of a record of exactly 8 bytes.
+pub fn read(bytes: &[u8]) -> Reading
+    ensures { λ r. ⌜ r ≡ answer (readOf (now (bytes .entry))) ⌝ }
+{
+    if bytes.len() != 8 {
+        return Reading::Refused(refusal::BAD_LENGTH);
+    }
+    match records::read(bytes, 0) {
+        Found::Is(r) => parse(r),
+        Found::Nothing => Reading::Refused(refusal::BAD_LENGTH),
+    }
+}
+
+// The instruction at an address of a program.
+pub fn fetch(program: &[u8], at: InstrAddr) -> Reading
+    ensures { λ r. ⌜ r ≡ answer (fetched (now (program .entry)) at) ⌝ }
+{
+    match records::read(program, at.0 as usize) {
+        Found::Is(r) => parse(r),
+        Found::Nothing => Reading::Refused(refusal::NO_INSTRUCTION),
+    }
+}
+
+fn record_of(i: Instr) -> Record
+    ensures { λ r. ⌜ r ≡ recordOf i ⌝ }
+{
+    match i {
+        Instr::Loadc(r, k) => Record {
+            b0: 1,
+            b1: r.0,
+            b2: 0,
+            b3: 0,
+            word: k,
+        },
+        Instr::Loadpc(r) => Record {
+            b0: 2,
+            b1: r.0,
+            b2: 0,
+            b3: 0,
+            word: 0,
+        },
+        Instr::Op(r, op, r1, r2) => Record {
+            b0: 3,
+            b1: r.0,
+            b2: r1.0,
+            b3: r2.0,
+            word: op as u32,
+        },
+        Instr::Jz(r1, r2) => Record {
+            b0: 4,
+            b1: 0,
+            b2: r1.0,
+            b3: r2.0,
+            word: 0,
+        },
+        Instr::Load(r, r1) => Record {
+            b0: 5,
+            b1: r.0,
+            b2: r1.0,
+            b3: 0,
+            word: 0,
+        },
+        Instr::Store(r1, r2) => Record {
+            b0: 6,
+            b1: 0,
+            b2: r1.0,
+            b3: r2.0,
+            word: 0,
+        },
+    }
+}
+
+// Writes the record into the first 8 bytes, and answers 0 or the refusal.
+pub fn write(i: Instr, out: &mut [u8]) -> u8
+    ensures { λ r. ⌜ Wrote i (now (out .entry)) r (now (out .exit)) ⌝ }
+{
+    if out.len() < 8 {
+        return refusal::BAD_LENGTH;
+    }
+    if !is_formed(i) {
+        return refusal::BAD_INSTRUCTION;
+    }
+    records::write(out, 0, record_of(i));
+    0
+}
+
+// How many records from the front are instructions.
+fn leading_instructions(program: &[u8]) -> usize
+    ensures { λ r. ⌜ r ≡ leading isInstr (records (now (program .entry))) ⌝ }
+{
+    let mut n: usize = 0;
+    loop {
+        match records::read(program, n) {
+            Found::Is(r) => match parse(r) {
+                Reading::Is(_) => n += 1,
+                Reading::Refused(_) => return n,
+            },
+            Found::Nothing => return n,
+        }
+    }
+}
+
+pub fn scan(program: &[u8]) -> Verdict
+    ensures { λ r. ⌜ r ≡ scanOf (now (program .entry)) ⌝ }
+{
+    if !records::is_whole(program) {
+        return Verdict {
+            refusal: refusal::BAD_LENGTH,
+            number: 0,
+        };
+    }
+    records::judge(
+        refusal::BAD_INSTRUCTION,
+        leading_instructions(program),
+        program.len() / 8,
+    )
+}
