@@ -10,12 +10,12 @@ use Rattle.isa.specs.declared.InstrAddr.{InstrAddr}
 use Rattle.isa.specs.declared.Reg.{Reg}
 use Rattle.cells.specs.Cells.{cells, Formed}
 use Rattle.kernel.specs.Kernel.{next, readAt, writeAt, branch, number, orKept, Run, going, attempt, Writes}
+use Rattle.kernel.proofs.Numbers.{Fails, write-fails}
 use Rattle.kernel.proofs.Writing.{write-formed}
 use Rattle.inorder.specs.declared.Register.{Register}
 use Rattle.inorder.specs.declared.InOrder.{InOrder}
 use Rattle.inorder.specs.declared.Stepped.{Stepped}
 use Rattle.inorder.specs.Machine.{put, moved, halted, jumps, loads, stores, after, memory, Does}
-use Rattle.inorder.proofs.Stops.{Fails, write-fails}
 
 module _ (s : InOrder) (m : List Value) {b b′ : List ℕ} {r : Stepped} (form : Formed b → Formed b′) where
   goes : (t : Try (List Value)) → Fails t → number t ≡ 0 → cells b′ ≡ orKept m t → r ≡ moved s (next (s .counter))

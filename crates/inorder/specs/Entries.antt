@@ -4,22 +4,17 @@ use Prim.Native.Nat.{ℕ, zero, suc, _+_}
 use mathlib.Core.Bool.{cond}
 use mathlib.Core.List.{List}
 use lib.Dec.{eqb}
-use Rattle.records.specs.declared.Verdict.{Verdict}
 use Rattle.value.specs.declared.Value.{Value}
 use Rattle.isa.specs.declared.Instr.{Instr}
 use Rattle.isa.specs.Program.{program}
 use Rattle.cells.specs.Cells.{cells, image, Formed}
-use Rattle.kernel.specs.Checks.{checked}
+use Rattle.kernel.specs.Checks.{checked, ifChecked}
 use Rattle.kernel.specs.Kernel.{Run, going, stopped}
 use Rattle.inorder.specs.declared.Register.{Register}
 use Rattle.inorder.specs.declared.InOrder.{InOrder}
 use Rattle.inorder.specs.declared.Stepped.{Stepped}
 use Rattle.inorder.specs.declared.Ran.{Ran}
 use Rattle.inorder.specs.Machine.{machine, once, after, memory, Does}
-
--- the work, unless the checks refuse
-abbrev pub ifChecked : {A : Type 0} → Verdict → A → A → A
-ifChecked v work refused = cond (eqb (v .refusal) 0) work refused
 
 -- ---- step
 

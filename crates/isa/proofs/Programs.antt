@@ -52,17 +52,17 @@ length-instructions (r ∷ rs) h =
     ∙ ap suc (length-instructions rs (rest (length rs) (leading isInstr rs) (instructions rs) (parse r) h))
 
 module _ (p : List ℕ) (e : scanOf p ≡ accepted) where
-  whole : Whole isInstr p
+  pub program-whole : Whole isInstr p
   unfolding scanOf
-  whole = scan-says badInstruction isInstr p (λ z. omega arith) e
+  program-whole = scan-says badInstruction isInstr p (λ z. omega arith) e
 
   pub length-program : length (program p) ≡ length p / 8
   unfolding program
-  length-program = length-instructions (records p) (whole .formed) ∙ length-records p
+  length-program = length-instructions (records p) (program-whole .formed) ∙ length-records p
 
   pub fetched-program : (a : InstrAddr) → fetched p a ≡ present (getElem? (program p) (a .0))
   unfolding program fetched
-  fetched-program a = instruction-at (records p) (whole .formed) (a .0)
+  fetched-program a = instruction-at (records p) (program-whole .formed) (a .0)
 
   -- an instruction that was fetched is well formed, and its address is inside
   pub fetched-inside : (a : InstrAddr) (i : Instr) → fetched p a ≡ got i → (a .0 < 1024) × (isFormed i ≡ true)
@@ -72,6 +72,6 @@ module _ (p : List ℕ) (e : scanOf p ≡ accepted) where
       at : (o : Option Record) → getElem? (records p) (a .0) ≡ o → parsed o ≡ got i → (a .0 < 1024) × (isFormed i ≡ true)
       at (some r) g h =
           let within = record-within p (a .0) g in
-          let few = whole .few in
+          let few = program-whole .few in
           (omega arith, record-parsed r i h .formed)
       at none g h = got-not-fails h

@@ -1,11 +1,13 @@
 -- What accepted checks say: program and memory are well formed.
-use mathlib.Core.Path.{_≡_, refl}
-use Prim.Native.Nat.{ℕ}
+use mathlib.Core.Path.{_≡_, refl, sym, ap, _∙_}
+use mathlib.Core.Logic.{_≢_}
+use Prim.Native.Nat.{ℕ, _<_}
 use native.Mathlib.Omega.{arith}
 use mathlib.Core.Bool.{Bool, true, false, cond, _&&_}
 use mathlib.Core.List.{List}
 use lib.Dec.{eqb}
-use borrow.Author.Tests.{eqb-true, eqb-false}
+use lib.ListN.{getD}
+use borrow.Author.Tests.{eqb-true, eqb-false, eq-eqb, ne-eqb}
 use Rattle.records.specs.declared.Verdict.{Verdict}
 use Rattle.records.specs.Refusal.{badLength, badInstruction, badCell}
 use Rattle.records.specs.Records.{isWhole}
@@ -13,7 +15,8 @@ use Rattle.records.specs.Scan.{verdict, accepted}
 use Rattle.records.proofs.Leading.{scan-accepts}
 use Rattle.isa.specs.Program as Program
 use Rattle.cells.specs.Cells as Cells
-use Rattle.kernel.specs.Checks.{first, checked}
+use Rattle.cells.proofs.Memory.{image-cells}
+use Rattle.kernel.specs.Checks.{first, checked, ifChecked}
 
 pub record Accepted (p b : List ℕ) : Type 0 where
   pub program : Program.scanOf p ≡ accepted
@@ -39,3 +42,23 @@ module _ (p b : List ℕ) where
             memory = scan-accepts badCell Cells.isCell b (λ z. omega arith) (a .1);
           }
       whole false h = absurd (omega arith)
+
+-- ---- an entry that checked
+
+-- v is the verdict w
+module _ (w : Verdict) {v : Verdict} (c : v ≡ w) where
+  pub refuses : v .refusal ≢ 0 → {A : Type 0} (work refused : A) → ifChecked w work refused ≡ refused
+  refuses h work refused = rw (← c, ne-eqb (v .refusal) 0 h) refl
+
+  pub works : v .refusal ≡ 0 → {A : Type 0} (work refused : A) → ifChecked w work refused ≡ work
+  works h work refused = rw (← c, eq-eqb (v .refusal) 0 h) refl
+
+module _ (p b : List ℕ) {v : Verdict} (c : v ≡ checked p b) (h : v .refusal ≡ 0) where
+  none : checked p b .refusal ≡ 0
+  none = sym (ap (λ (w : Verdict). w .refusal) c) ∙ h
+
+  pub checked-program : Program.scanOf p ≡ accepted
+  checked-program = checks-say p b none .program
+
+  pub checked-memory : ((i : ℕ) → getD b i 0 < 256) → Cells.Formed b
+  checked-memory small = image-cells b (checks-say p b none .memory) small

@@ -16,3 +16,7 @@ first v w = cond (eqb (v .refusal) 0) w v
 
 unfoldable pub checked : List ℕ → List ℕ → Verdict
 checked p b = cond (isWhole p && isWhole b) (first (Program.scanOf p) (Cells.scanOf b)) (verdict badLength 0)
+
+-- the work, unless the checks refuse
+abbrev pub ifChecked : {A : Type 0} → Verdict → A → A → A
+ifChecked v work refused = cond (eqb (v .refusal) 0) work refused

@@ -45,12 +45,12 @@ within (y ∷ xs) (suc n) e = omega (arith, within xs n e)
 pub record-within : (b : List ℕ) (n : ℕ) {r : Record} → getElem? (records b) n ≡ some r → n < length b / 8
 record-within b n e = rw length-records at (within (records b) n e)
 
-drop-some : {A : Type 0} (xs : List A) (n : ℕ) {x : A} → getElem? xs n ≡ some x → drop n xs ≡ x ∷ drop (suc n) xs
+pub drop-some : {A : Type 0} (xs : List A) (n : ℕ) {x : A} → getElem? xs n ≡ some x → drop n xs ≡ x ∷ drop (suc n) xs
 drop-some [] n e = let z : _≡_ {A = ℕ} 0 1 = cc in absurd (omega arith)
 drop-some (y ∷ xs) zero e = cc
 drop-some (y ∷ xs) (suc n) e = drop-some xs n e
 
-drop-none : {A : Type 0} (xs : List A) (n : ℕ) → getElem? xs n ≡ none → drop n xs ≡ []
+pub drop-none : {A : Type 0} (xs : List A) (n : ℕ) → getElem? xs n ≡ none → drop n xs ≡ []
 drop-none [] zero e = refl
 drop-none [] (suc n) e = refl
 drop-none (y ∷ xs) zero e = let z : _≡_ {A = ℕ} 0 1 = cc in absurd (omega arith)

@@ -1,5 +1,6 @@
 -- `inorder::InOrder::run` meets its contract.
-use Rattle.inorder.proofs.Entering.{checked-program, run-refused, run-done}
+use Rattle.kernel.proofs.Checking.{checked-program}
+use Rattle.inorder.proofs.Entering.{run-refused, run-done}
 use borrow.Author.Needs.{needs}
 use Rattle.inorder.proofs.InOrder.run.Statement.{statement}
 use Rattle.inorder.proofs.InOrder.run.Tie as tie

@@ -1,5 +1,6 @@
 -- `inorder::InOrder::step` meets its contract.
-use Rattle.inorder.proofs.Entering.{checked-program, step-refused, step-done}
+use Rattle.kernel.proofs.Checking.{checked-program}
+use Rattle.inorder.proofs.Entering.{step-refused, step-done}
 use borrow.Author.Needs.{needs}
 use Rattle.inorder.proofs.InOrder.step.Statement.{statement}
 use Rattle.inorder.proofs.InOrder.step.Tie as tie

@@ -1,0 +1,177 @@
+-- The loop of a drain is the drain, and what blocks it is the oldest template's refusal.
+use mathlib.Core.Path.{_≡_, refl, sym, ap, _∙_}
+use mathlib.Core.Logic.{_≢_}
+use Prim.Native.Nat.{ℕ, zero, suc, _+_, _*_, _-_, _/_, _<_, _≤_}
+use native.Mathlib.Decide.{decLt}
+use native.Mathlib.Omega.{arith}
+use mathlib.Core.List.{List, [], _∷_}
+use lib.ListN.{length, take, drop, getElem?}
+use lib.Seq.{drop-cons}
+use borrow.Author.Tests.{lt-ltb, le-ltb}
+use Rattle.records.specs.declared.Verdict.{Verdict}
+use Rattle.records.specs.Refusal.{outside}
+use Rattle.records.specs.Scan.{accepted}
+use Rattle.records.specs.Try.{Try, got, fails}
+use Rattle.value.specs.declared.Value.{Value}
+use Rattle.value.specs.declared.Value.the-variants.{Undefined, Word}
+use Rattle.isa.specs.Program as Program
+use Rattle.cells.specs.Cells.{cells, image, Formed, inside, loadFrom}
+use Rattle.kernel.specs.Kernel.{readAt, writeAt, number}
+use Rattle.kernel.proofs.Checking.{refuses, works}
+use Rattle.templates.specs.declared.Operand.{Operand}
+use Rattle.templates.specs.declared.Operand.the-variants.{Known, Waits}
+use Rattle.templates.specs.declared.Work.{Work}
+use Rattle.templates.specs.declared.Work.the-variants.{Store}
+use Rattle.templates.specs.declared.Template.{Template}
+use Rattle.templates.specs.declared.State.{State}
+use Rattle.templates.specs.Templates.{template, blank}
+use Rattle.templates.specs.Layout.{machOf}
+use Rattle.templates.proofs.Places.{held-length}
+use Rattle.sound.proofs.Decides.{sound-said}
+use Rattle.renaming.specs.declared.Rule.the-variants as Rule
+use Rattle.renaming.specs.declared.Answer.{Answer}
+use Rattle.renaming.specs.declared.Settled.{Settled}
+use Rattle.renaming.specs.Rules as Rules
+use Rattle.renaming.specs.Rules.{Step, refused, storing}
+use Rattle.renaming.specs.Answers.{answerOf, before, behind, Stands, at, Fit, Acts}
+use Rattle.renaming.specs.Drain.{Drained, further, drainFrom, drain, oldest, asks, refusal, blocking, blockedAt, storeRefusal}
+use Rattle.renaming.specs.Entries.{entered, settled, drained, drainedMemory, Drains, Empties}
+use Rattle.renaming.proofs.Changes.{standing}
+use Rattle.renaming.proofs.Applied.{apply-at}
+use Rattle.renaming.proofs.Looping.{oldest-keeps-sound, oldest-numbered}
+use Rattle.renaming.proofs.Fitting.{acts-accepted, acts-refused, acts-laid}
+
+-- ---- what blocks
+
+refusal-of : (s : State) (t : Step) {r : Answer} → r ≡ answerOf s t → r .refusal ≡ refusal t
+refusal-of s (Rules.accepted σ m) e = ap (λ (x : Answer). x .refusal) e
+refusal-of s (refused n) e = ap (λ (x : Answer). x .refusal) e
+
+nobody : (s : State) → s .count ≡ 0 → machOf s .held ≡ []
+nobody s e = ap (λ (n : ℕ). take n (s .templates)) e
+
+pub blocking-none : (s : State) (m : List Value) → s .count ≡ 0 → 0 ≡ blocking (machOf s) m (machOf s .held)
+blocking-none s m e = sym (ap (blocking (machOf s) m) (nobody s e))
+
+pub blocked-nowhere : (s : State) → s .count ≡ 0 → record { 0 = 0 } ≡ blockedAt (machOf s .held)
+blocked-nowhere s e = sym (ap blockedAt (nobody s e))
+
+module _ (s : State) (x : Template) (w : Work) (h : Stands s 0 x w) where
+  -- the oldest stands in front
+  front : machOf s .held ≡ template (x .address) w ∷ drop 1 (machOf s .held)
+  front =
+      drop-cons (machOf s .held) 0 blank (omega (arith, held-length s (h .laid), h .place))
+      ∙ ap (λ (y : Template). y ∷ drop 1 (machOf s .held)) (standing s 0 x w h)
+
+  pub blocking-is : (m : List Value) → refusal (at (asks w) s 0 x w m) ≡ blocking (machOf s) m (machOf s .held)
+  blocking-is m = ap refusal (sym (apply-at s (asks w) 0 m x w h)) ∙ sym (ap (blocking (machOf s) m) front)
+
+  pub blocking-answer : (m : List Value) {r : Answer} → r ≡ answerOf s (at (asks w) s 0 x w m) → r .refusal ≡ blocking (machOf s) m (machOf s .held)
+  blocking-answer m e = refusal-of s (at (asks w) s 0 x w m) e ∙ blocking-is m
+
+  pub blocked-is : x .address ≡ blockedAt (machOf s .held)
+  blocked-is = sym (ap blockedAt front)
+
+-- a load and a store at an address are refused alike
+load-inside : (m : List Value) (k : ℕ) → k < length m → number (inside (getElem? m k)) ≡ 0
+load-inside [] k h = absurd (omega arith)
+load-inside (v ∷ m) zero h = refl
+load-inside (v ∷ m) (suc k) h = load-inside m k (omega arith)
+
+load-outside : (m : List Value) (k : ℕ) → length m ≤ k → number (inside (getElem? m k)) ≡ outside
+load-outside [] k h = refl
+load-outside (v ∷ m) zero h = absurd (omega arith)
+load-outside (v ∷ m) (suc k) h = load-outside m k (omega arith)
+
+numbers-alike : (m : List Value) (u v : Value) → number (writeAt m u v) ≡ number (readAt m u)
+unfolding loadFrom
+numbers-alike m Undefined v = refl
+numbers-alike m (Word w) v = at (decLt w (length m))
+  where
+    at : Dec (w < length m) → number (writeAt m (Word w) v) ≡ number (inside (getElem? m w))
+    at (yes h) = rw (lt-ltb w (length m) h) (sym (load-inside m w h))
+    at (no h) = rw (le-ltb w (length m) (omega arith)) (sym (load-outside m w (omega arith)))
+
+stored-refusal : (s : State) (pre post : List Template) (t : Try (List Value)) → refusal (storing (machOf s) pre post t) ≡ number t
+stored-refusal s pre post (got m) = refl
+stored-refusal s pre post (fails n) = refl
+
+pub store-blocked : (s : State) (x : Template) (a b : Operand) (m : List Value) → storeRefusal m a b ≡ refusal (at Rule.Store s 0 x (Store a b) m)
+store-blocked s x (Waits t) b m = refl
+store-blocked s x (Known u) (Waits t) m = refl
+store-blocked s x (Known u) (Known v) m = sym (numbers-alike m u v) ∙ sym (stored-refusal s (before s 0) (behind s 0) (writeAt m u v))
+
+-- ---- the loop of a drain
+
+-- the drain from here on is the whole drain
+pub record Left (p : List ℕ) (s₀ : State) (b₀ : List ℕ) (s : State) (b : List ℕ) (n : ℕ) : Type 0 where
+  pub rest : drainFrom (256 - n) n (machOf s) (cells b) ≡ drain (machOf s₀) (cells b₀)
+  pub fit : Fit p s
+  pub below : n ≤ 256
+  pub long : length b ≡ length b₀
+  pub formed : Formed b₀ → Formed b
+
+pub drain-begins : (p : List ℕ) (s : State) (b : List ℕ) → Fit p s → Left p s b s b 0
+drain-begins p s b f = record { rest = refl; fit = f; below = omega arith; long = refl; formed = λ h. h }
+
+module _ {p : List ℕ} {s₀ : State} {b₀ : List ℕ} {s : State} {b : List ℕ} {n : ℕ} (l : Left p s₀ b₀ s b n) where
+  -- where the loop is left, with an answer for the machine as it is
+  ends : (b′ : List ℕ) → cells b′ ≡ cells b → (Formed b → Formed b′) → record { rules = n; machine = machOf s; memory = cells b } ≡ drain (machOf s₀) (cells b₀)
+      → {r : Settled} → r ≡ settled (record { rules = n; machine = machOf s; memory = cells b′ }) → Empties s₀ b₀ r b′
+  ends b′ same form e a =
+      let here : record { rules = n; machine = machOf s; memory = cells b′ } ≡ drain (machOf s₀) (cells b₀) =
+      ap (λ (m : List Value). record { rules = n; machine = machOf s; memory = m }) same ∙ e in
+      record { answer = a ∙ ap settled here; holds = ap (λ (d : Drained). d .memory) here; formed = λ f. form (l .formed f) }
+
+  module _ (scanned : Program.scanOf p ≡ accepted) (h : n < 256) {r : Answer} {b′ : List ℕ} (a : Acts s (oldest (machOf s) (cells b)) b r b′) where
+    turn : drainFrom (256 - n) n (machOf s) (cells b)
+        ≡ further (λ σ m. drainFrom (256 - (n + 1)) (n + 1) σ m) (record { rules = n; machine = machOf s; memory = cells b }) (oldest (machOf s) (cells b))
+    unfolding drainFrom
+    turn = let more : 256 - n ≡ suc (256 - (n + 1)) = omega arith in ap (λ (k : ℕ). drainFrom k n (machOf s) (cells b)) more
+
+    pub drain-again : r .refusal ≡ 0 → length b′ ≡ length b → Left p s₀ b₀ (r .state) b′ (n + 1)
+    drain-again z long =
+        let k = length p / 8 in
+        let sound = sound-said k (machOf s) .holds (l .fit .sound) in
+        let t = oldest (machOf s) (cells b) in
+        let laid = acts-laid t k (oldest-numbered (machOf s) (cells b)) (oldest-keeps-sound k (machOf s) (cells b) sound) a z in
+        record {
+          rest = sym (turn ∙ ap (further _ _) (acts-accepted t (oldest-numbered (machOf s) (cells b)) a z)) ∙ l .rest;
+          fit = record { laid = laid .0; sound = sound-said k (machOf (r .state)) .says (laid .1) };
+          below = omega arith;
+          long = long ∙ l .long;
+          formed = λ f. a .formed (l .formed f);
+        }
+
+    pub drain-stops : r .refusal ≢ 0 → {q : Settled} → q ≡ settled (record { rules = n; machine = machOf s; memory = cells b′ }) → Empties s₀ b₀ q b′
+    drain-stops z e =
+        let no = acts-refused (oldest (machOf s) (cells b)) a z in
+        ends b′ (no .1) (a .formed) (sym (turn ∙ ap (further _ _) (no .0)) ∙ l .rest) e
+
+  pub drain-spent : 256 ≤ n → {q : Settled} → q ≡ settled (record { rules = n; machine = machOf s; memory = cells b }) → Empties s₀ b₀ q b
+  unfolding drainFrom
+  drain-spent h e =
+      let none : 256 - n ≡ 0 = omega arith in
+      ends b refl (λ f. f) (ap (λ (k : ℕ). drainFrom k n (machOf s) (cells b)) (sym none) ∙ l .rest) e
+
+-- ---- the entry
+
+module _ (p : List ℕ) (s : State) (b : List ℕ) {v : Verdict} (c : v ≡ entered p b s) where
+  pub drain-refused : v .refusal ≢ 0
+      → Drains p s b (record { state = s; rules = 0; refusal = v .refusal; number = v .number; address = record { 0 = 0 } }) b
+  unfolding drained drainedMemory
+  drain-refused h =
+      record {
+        answer =
+            ap (λ (w : Verdict). record { state = s; rules = 0; refusal = w .refusal; number = w .number; address = record { 0 = 0 } }) c
+            ∙ sym (refuses (entered p b s) c h _ _);
+        bytes = sym (refuses (entered p b s) c h _ b);
+      }
+
+  pub drain-done : v .refusal ≡ 0 → Formed b → {r : Settled} {b′ : List ℕ} → Empties s b r b′ → Drains p s b r b′
+  unfolding drained drainedMemory
+  drain-done h f e =
+      record {
+        answer = e .answer ∙ sym (works (entered p b s) c h _ _);
+        bytes = sym (e .formed f) ∙ ap image (e .holds) ∙ sym (works (entered p b s) c h _ b);
+      }

@@ -1,0 +1,122 @@
+-- A state that was checked is the layout of a sound machine, and stays one.
+use mathlib.Core.Path.{_≡_, refl, sym, ap, ap₂, subst, _∙_}
+use mathlib.Core.Logic.{_≢_}
+use Prim.Native.Nat.{ℕ, zero, suc, _/_, _<_, _≤_}
+use native.Mathlib.Omega.{arith}
+use mathlib.Core.Bool.{Bool, true, false, cond}
+use mathlib.Core.List.{List, [], _∷_}
+use lib.Dec.{eqb}
+use lib.ListN.{length, getD}
+use lib.Seq.{getD-take}
+use borrow.Author.Tests.{eqb-true, eqb-false}
+use Rattle.records.specs.declared.Verdict.{Verdict}
+use Rattle.records.specs.Refusal.{unsound}
+use Rattle.records.specs.Scan.{verdict, accepted}
+use Rattle.isa.specs.Program.{program}
+use Rattle.isa.specs.Program as Program
+use Rattle.isa.proofs.Programs.{length-program, program-whole}
+use Rattle.cells.specs.Cells.{cells, Formed}
+use Rattle.kernel.specs.Checks.{first, checked}
+use Rattle.kernel.proofs.Checking.{checked-program, checked-memory}
+use Rattle.templates.specs.declared.Template.{Template}
+use Rattle.templates.specs.declared.State.{State}
+use Rattle.templates.specs.Templates.{blank}
+use Rattle.templates.specs.Layout.{machOf, Laid}
+use Rattle.templates.proofs.Places.{machOf-stateOf, stateOf-laid, held-length}
+use Rattle.sound.specs.Sound.{Produced, none, after, isSound}
+use Rattle.sound.proofs.Soundness.{TemplatesOk, Sound}
+use Rattle.sound.proofs.Decides.{sound-said, sound-laid, sound-machine}
+use Rattle.renaming.specs.declared.Command.{Command}
+use Rattle.renaming.specs.declared.Answer.{Answer}
+use Rattle.renaming.specs.Rules as Rules
+use Rattle.renaming.specs.Rules.{Step, refused}
+use Rattle.renaming.specs.Schedule.{obey}
+use Rattle.renaming.specs.Answers.{Fit, Within, Acts, Obeys}
+use Rattle.renaming.specs.Entries.{entered, Enters}
+use Rattle.renaming.proofs.Formed.{program-formed}
+use Rattle.renaming.proofs.Keeping.{StaysSound, obey-keeps-sound}
+use Rattle.renaming.proofs.Numbered.{Numbered, obey-numbered}
+
+-- ---- what the checks say
+
+entered-both : (v w : Verdict) → first v w .refusal ≡ 0 → (v .refusal ≡ 0) × (w .refusal ≡ 0)
+entered-both v w = go (eqb (v .refusal) 0) refl
+  where
+    go : (t : Bool) → eqb (v .refusal) 0 ≡ t → cond t w v .refusal ≡ 0 → (v .refusal ≡ 0) × (w .refusal ≡ 0)
+    go true e h = (eqb-true (v .refusal) 0 e, h)
+    go false e h = absurd (eqb-false (v .refusal) 0 e h)
+
+is-sound : (t : Bool) → cond t accepted (verdict unsound 0) .refusal ≡ 0 → t ≡ true
+is-sound true e = refl
+is-sound false e = absurd (omega arith)
+
+module _ (p b : List ℕ) (s : State) {v : Verdict} (e : Enters p b s v) (h : v .refusal ≡ 0) where
+  passed : (checked p b .refusal ≡ 0) × (isSound (length p / 8) s ≡ true)
+  unfolding entered
+  passed =
+      let both = entered-both (checked p b) (cond (isSound (length p / 8) s) accepted (verdict unsound 0)) (sym (ap (λ (w : Verdict). w .refusal) (e .verdict)) ∙ h) in
+      (both .0, is-sound (isSound (length p / 8) s) (both .1))
+
+  pub entered-program : Program.scanOf p ≡ accepted
+  entered-program = checked-program p b refl (passed .0)
+
+  pub entered-memory : ((i : ℕ) → getD b i 0 < 256) → Formed b
+  entered-memory small = checked-memory p b refl (passed .0) small
+
+  pub entered-fit : Fit p s
+  entered-fit =
+      record {
+        laid = sound-laid (length p / 8) s (e .long) (passed .1);
+        sound = sound-said (length p / 8) (machOf s) .says (sound-machine (length p / 8) s (e .long) (passed .1));
+      }
+
+-- ---- every template is inside the program
+
+templates-inside : (k : ℕ) (made : Produced) (xs : List Template) → TemplatesOk k made xs → (i : ℕ) → i < length xs → getD xs i blank .address .0 < k
+templates-inside k made [] h i l = absurd (omega arith)
+templates-inside k made (x ∷ xs) h zero l = h .0
+templates-inside k made (x ∷ xs) h (suc i) l = templates-inside k (after (x .work) made) xs (h .2) i (omega arith)
+
+pub fit-within : (p : List ℕ) (s : State) → Program.scanOf p ≡ accepted → Fit p s → Within s
+fit-within p s a f i l =
+    let few = program-whole p a .few in
+    let here : getD (machOf s .held) i blank ≡ getD (s .templates) i blank = getD-take (s .count) (s .templates) i blank l in
+    let inside = templates-inside (length p / 8) none (machOf s .held) (sound-said (length p / 8) (machOf s) .holds (f .sound) .templates) i (omega (arith, held-length s (f .laid))) in
+    omega (arith, ap (λ (x : Template). x .address .0) here)
+
+-- ---- an answer and the rule
+
+module _ {s : State} {b : List ℕ} {r : Answer} {b′ : List ℕ} where
+  pub acts-accepted : (t : Step) → Numbered t → Acts s t b r b′ → r .refusal ≡ 0 → t ≡ Rules.accepted (machOf (r .state)) (cells b′)
+  acts-accepted (Rules.accepted σ m) n a e =
+      ap₂ Rules.accepted (sym (machOf-stateOf σ) ∙ ap machOf (sym (ap (λ (x : Answer). x .state) (a .answer)))) (sym (a .holds))
+  acts-accepted (refused k) n a e = absurd (n (sym (ap (λ (x : Answer). x .refusal) (a .answer)) ∙ e))
+
+  pub acts-refused : (t : Step) → Acts s t b r b′ → r .refusal ≢ 0 → (t ≡ refused (r .refusal)) × (cells b′ ≡ cells b)
+  acts-refused (Rules.accepted σ m) a e = absurd (e (ap (λ (x : Answer). x .refusal) (a .answer)))
+  acts-refused (refused k) a e = (ap refused (sym (ap (λ (x : Answer). x .refusal) (a .answer))), a .holds)
+
+  -- an accepted rule leaves a machine's layout
+  pub acts-laid : (t : Step) (k : ℕ) → Numbered t → StaysSound k t → Acts s t b r b′ → r .refusal ≡ 0 → Laid (r .state) × Sound k (machOf (r .state))
+  acts-laid (Rules.accepted σ m) k n h a e =
+      let same = sym (ap (λ (x : Answer). x .state) (a .answer)) in
+      (subst Laid same (stateOf-laid σ (h .few)), subst (λ (q : State). Sound k (machOf q)) same (subst (Sound k) (sym (machOf-stateOf σ)) h))
+  acts-laid (refused j) k n h a e = absurd (n (sym (ap (λ (x : Answer). x .refusal) (a .answer)) ∙ e))
+
+-- ---- a rule keeps the state fit
+
+module _ (p : List ℕ) (c : Command) (s : State) {b : List ℕ} {r : Answer} {b′ : List ℕ} (a : Program.scanOf p ≡ accepted) (f : Fit p s) (o : Obeys p c s b r b′) where
+  machine-sound : Sound (length (program p)) (machOf s)
+  machine-sound = rw (length-program p a) (sound-said (length p / 8) (machOf s) .holds (f .sound))
+
+  pub obeyed : r .refusal ≡ 0 → obey (program p) c (machOf s) (cells b) ≡ Rules.accepted (machOf (r .state)) (cells b′)
+  obeyed e = acts-accepted (obey (program p) c (machOf s) (cells b)) (obey-numbered (program p) (machOf s) (cells b) c) o e
+
+  pub still-fit : r .refusal ≡ 0 → Fit p (r .state)
+  still-fit e =
+      let l = acts-laid (obey (program p) c (machOf s) (cells b)) (length (program p)) (obey-numbered (program p) (machOf s) (cells b) c)
+      (obey-keeps-sound (program p) (program-formed p) (machOf s) (cells b) machine-sound c) o e in
+      record {
+        laid = l .0;
+        sound = sound-said (length p / 8) (machOf (r .state)) .says (subst (λ (k : ℕ). Sound k (machOf (r .state))) (length-program p a) (l .1));
+      }

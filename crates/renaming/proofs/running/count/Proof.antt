@@ -1,0 +1,31 @@
+-- `renaming::running::count` meets its contract.
+use mathlib.Core.Path.{sym, ap}
+use Rattle.renaming.specs.Run.{counted}
+use borrow.Author.Needs.{needs}
+use Rattle.renaming.proofs.running.count.Statement.{statement}
+use Rattle.renaming.proofs.running.count.Tie as tie
+
+enum-told : tie.Need-enum-told
+enum-told c = search needs
+
+enum-told-2 : tie.Need-enum-told-2
+enum-told-2 c = search needs
+
+add-result : tie.Need-add-result
+add-result c = search needs
+
+enum-told-3 : tie.Need-enum-told-3
+enum-told-3 c = search needs
+
+returns : tie.Need-returns
+returns c = search needs
+
+returns-2 : tie.Need-returns-2
+returns-2 c = rw (c .enum-told2 .given .1)
+
+returns-3 : tie.Need-returns-3
+returns-3 c = search needs
+
+pub count-spec : {M : Type 1} → statement M
+count-spec =
+    tie.close (tie.spec enum-told enum-told-2 add-result enum-told-3 returns returns-2 returns-3)

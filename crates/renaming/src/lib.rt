@@ -1,0 +1,66 @@
+// The renaming machine: nine rules, one step, schedules, run and drain.
+mod apply;
+mod change;
+mod done;
+mod draining;
+mod entry;
+mod issue;
+mod memory;
+mod running;
+mod schedule;
+mod waiting;
+
+pub use crate::draining::drain;
+pub use crate::entry::step;
+pub use crate::running::run;
+
+// The rules but issue.
+pub enum Rule {
+    Operate,
+    Forward,
+    Commit,
+    Retire,
+    Load,
+    Store,
+    Jump,
+    NoJump,
+}
+
+// A schedule record, read: an issue with a tag, or a rule at a place.
+pub enum Command {
+    Malformed,
+    Issue(isa::Tag),
+    Apply(Rule, usize),
+}
+
+// The state after a rule, and the refusal, 0 if there is none.
+pub struct Answer {
+    pub state: templates::State,
+    pub refusal: u8,
+}
+
+// The same after a step, with the record number of refusals 2 and 3.
+pub struct Stepped {
+    pub state: templates::State,
+    pub refusal: u8,
+    pub number: usize,
+}
+
+// The state after the accepted part of a schedule, accepted records and issues, the refusal, and the record number of 2 and 3.
+pub struct Ran {
+    pub state: templates::State,
+    pub accepted: usize,
+    pub issued: usize,
+    pub refusal: u8,
+    pub number: usize,
+}
+
+// The state that a drain leaves, the rules that it applied, and the record number of refusals 2 and 3. The refusal is 0 if no
+// template is left; of a drain that was checked it is else the oldest template's, whose address stands beside it.
+pub struct Settled {
+    pub state: templates::State,
+    pub rules: usize,
+    pub refusal: u8,
+    pub number: usize,
+    pub address: isa::InstrAddr,
+}
