@@ -15,3 +15,10 @@ pub mod Draining
 pub mod Agreement
 pub mod Settling
 pub mod Confluence
+pub mod Table
+pub mod Examples
+pub mod Memo
+pub mod MemoBase
+pub mod Conditions
+pub mod Stopping
+pub mod Demand2

@@ -4,3 +4,7 @@ pub mod Schedules
 pub mod OldestFirst
 pub mod Agrees
 pub mod Demand3
+pub mod Table
+pub mod Memo
+pub mod MemoBase
+pub mod Conditions
