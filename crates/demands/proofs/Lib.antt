@@ -22,3 +22,9 @@ pub mod MemoBase
 pub mod Conditions
 pub mod Stopping
 pub mod Demand2
+pub mod Demand1
+pub mod Words
+pub mod RunThenDrain
+pub mod OneAnswer
+pub mod Simulates
+pub mod Projects

@@ -8,3 +8,7 @@ pub mod Table
 pub mod Memo
 pub mod MemoBase
 pub mod Conditions
+pub mod Demand1
+pub mod RunThenDrain
+pub mod OneAnswer
+pub mod Simulates
