@@ -1,16 +1,49 @@
 -- A public entry's promise admits one answer, and one content of the buffer that it was lent.
 use Prim.Native.Nat.{ℕ}
 use mathlib.Core.Path.{_≡_}
+use mathlib.Core.Bool.{Bool}
 use mathlib.Core.List.{List}
+use lib.ListN.{getElem?, take, drop}
+use Rattle.records.specs.declared.Found.{Found}
+use Rattle.records.specs.declared.Record.{Record}
+use Rattle.records.specs.declared.Verdict.{Verdict}
+use Rattle.records.specs.Records.{found}
+use Rattle.records.specs.Records as Records
+use Rattle.records.specs.Scan.{judged}
 use Rattle.value.specs.declared.Value.{Value}
+use Rattle.value.specs.Operation.{result}
+use Rattle.text.specs.Text.{Put, decimal}
+use Rattle.isa.specs.declared.InstrAddr.{InstrAddr}
 use Rattle.isa.specs.declared.DataAddr.{DataAddr}
+use Rattle.isa.specs.declared.Reg.{Reg}
+use Rattle.isa.specs.declared.Tag.{Tag}
+use Rattle.isa.specs.declared.Reading.{Reading}
+use Rattle.isa.specs.Instruction.{readOf}
+use Rattle.isa.specs.Instruction as Instruction
 use Rattle.isa.specs.declared.Instr.{Instr}
-use Rattle.isa.specs.Program.{Wrote}
-use Rattle.cells.specs.Cells.{Stores}
+use Rattle.isa.specs.Program.{Wrote, fetched}
+use Rattle.isa.specs.Program as Program
+use Rattle.cells.specs.declared.Loaded.{Loaded}
+use Rattle.cells.specs.Cells.{Stores, cells, loadFrom}
+use Rattle.cells.specs.Cells as Cells
+use Rattle.kernel.specs.declared.Reached.{Reached}
+use Rattle.kernel.specs.Checks.{checked}
+use Rattle.kernel.specs.Kernel.{Writes, reached}
+use Rattle.kernel.specs.Kernel as Kernel
 use Rattle.listing.specs.Listing.{Lists}
 use Rattle.inorder.specs.declared.InOrder.{InOrder}
+use Rattle.inorder.specs.Machine as Machine
 use Rattle.inorder.specs.Entries as InOrder
+use Rattle.templates.specs.declared.Operand.{Operand}
+use Rattle.templates.specs.declared.Work.{Work}
+use Rattle.templates.specs.declared.Template.{Template}
+use Rattle.templates.specs.declared.Register.{Register}
 use Rattle.templates.specs.declared.State.{State}
+use Rattle.templates.specs.Templates.{waits, makes, fill, anyHolds, anyMakes, anyMemory, anyReg, fillRegs, contents, put}
+use Rattle.templates.specs.Templates as Templates
+use Rattle.templates.specs.Layout.{stateOf, mapFrom, removed}
+use Rattle.templates.specs.Layout as Layout
+use Rattle.sound.specs.Sound as Sound
 use Rattle.renaming.specs.Entries.{Steps, Runs, Drains}
 
 -- of a promise about an answer
@@ -21,6 +54,7 @@ OneAnswer {A} P = (r r′ : A) → P r → P r′ → r ≡ r′
 abbrev pub OneAnswerAndBuffer : {A : Type 0} → (A → List ℕ → Type 0) → Type 0
 OneAnswerAndBuffer {A} P = (r r′ : A) (b b′ : List ℕ) → P r b → P r′ b′ → (r ≡ r′) × (b ≡ b′)
 
+-- a line for each public function: first those that write into a lent buffer and answer
 pub record OneAnswers : Type 0 where
   pub step : (p : List ℕ) (s : State) (b one : List ℕ) → OneAnswerAndBuffer (Steps p s b one)
   pub run : (p : List ℕ) (s : State) (b records : List ℕ) → OneAnswerAndBuffer (Runs p s b records)
@@ -30,3 +64,39 @@ pub record OneAnswers : Type 0 where
   pub write : (i : Instr) (out : List ℕ) → OneAnswerAndBuffer (Wrote i out)
   pub list : (p out : List ℕ) → OneAnswerAndBuffer (Lists p out)
   pub store : (b : List ℕ) (a : DataAddr) (v : Value) → OneAnswerAndBuffer (Stores b a v)
+  pub putText : (b : List ℕ) (at : ℕ) (t : List ℕ) → OneAnswerAndBuffer (Put b at t)
+  pub putDecimal : (b : List ℕ) (at n : ℕ) → OneAnswerAndBuffer (Put b at (decimal n))
+  pub writeAt : (b : List ℕ) (a v : Value) → OneAnswerAndBuffer (Writes b a v)
+  -- then those whose promise is one equation
+  pub readRecord : (b : List ℕ) (number : ℕ) → OneAnswer (λ (r′ : Found). r′ ≡ found (getElem? (Records.records b) number))
+  pub writeRecord : (b : List ℕ) (number : ℕ) (r : Record) → OneAnswer (λ (r′ : List ℕ). r′ ≡ Records.replaced b number r)
+  pub isWhole : (b : List ℕ) → OneAnswer (λ (r′ : Bool). r′ ≡ Records.isWhole b)
+  pub judge : (refusal formed count : ℕ) → OneAnswer (λ (r′ : Verdict). r′ ≡ judged refusal formed count)
+  pub operate : (n : ℕ) (x y : Value) → OneAnswer (λ (r′ : Value). r′ ≡ result n x y)
+  pub readInstruction : (b : List ℕ) → OneAnswer (λ (r′ : Reading). r′ ≡ Instruction.answer (readOf b))
+  pub fetch : (p : List ℕ) (a : InstrAddr) → OneAnswer (λ (r′ : Reading). r′ ≡ Instruction.answer (fetched p a))
+  pub scanProgram : (p : List ℕ) → OneAnswer (λ (r′ : Verdict). r′ ≡ Program.scanOf p)
+  pub scanMemory : (b : List ℕ) → OneAnswer (λ (r′ : Verdict). r′ ≡ Cells.scanOf b)
+  pub load : (b : List ℕ) (a : DataAddr) → OneAnswer (λ (r′ : Loaded). r′ ≡ Cells.answer (loadFrom (cells b) a))
+  pub check : (p b : List ℕ) → OneAnswer (λ (r′ : Verdict). r′ ≡ checked p b)
+  pub readAt : (b : List ℕ) (a : Value) → OneAnswer (λ (r′ : Loaded). r′ ≡ Cells.answer (Kernel.readAt (cells b) a))
+  pub target : (v : Value) → OneAnswer (λ (r′ : Reached). r′ ≡ reached (Kernel.target v))
+  pub inOrderStart : OneAnswer (λ (r′ : InOrder). r′ ≡ Machine.start)
+  pub start : OneAnswer (λ (r′ : State). r′ ≡ stateOf Layout.start)
+  pub waitsFor : (o : Operand) (t : Tag) → OneAnswer (λ (r′ : Bool). r′ ≡ waits t o)
+  pub operandAt : (w : Work) (j : ℕ) → OneAnswer (λ (r′ : Operand). r′ ≡ Templates.operandAt w j)
+  pub madeBy : (w : Work) → OneAnswer (λ (r′ : Tag). r′ ≡ makes w)
+  pub isMemory : (w : Work) → OneAnswer (λ (r′ : Bool). r′ ≡ Templates.isMemory w)
+  pub fillOperand : (o : Operand) (t : Tag) (v : Value) → OneAnswer (λ (r′ : Operand). r′ ≡ fill t v o)
+  pub fillTemplate : (x : Template) (t : Tag) (v : Value) → OneAnswer (λ (r′ : Template). r′ ≡ Templates.fillTemplate t v x)
+  pub blank : OneAnswer (λ (r′ : Template). r′ ≡ Templates.blank)
+  pub heldFrom : (ts : List Template) (n from : ℕ) (t : Tag) → OneAnswer (λ (r′ : Bool). r′ ≡ anyHolds t (drop from (take n ts)))
+  pub produced : (ts : List Template) (n : ℕ) (t : Tag) → OneAnswer (λ (r′ : Bool). r′ ≡ anyMakes t (take n ts))
+  pub memoryBefore : (ts : List Template) (n : ℕ) → OneAnswer (λ (r′ : Bool). r′ ≡ anyMemory (take n ts))
+  pub fillFrom : (ts : List Template) (from : ℕ) (t : Tag) (v : Value) → OneAnswer (λ (r′ : List Template). r′ ≡ mapFrom (Templates.fillTemplate t v) from ts)
+  pub without : (ts : List Template) (p : ℕ) → OneAnswer (λ (r′ : List Template). r′ ≡ removed p ts)
+  pub heldByRegister : (rf : List Register) (t : Tag) → OneAnswer (λ (r′ : Bool). r′ ≡ anyReg t rf)
+  pub fillRegisters : (rf : List Register) (t : Tag) (v : Value) → OneAnswer (λ (r′ : List Register). r′ ≡ fillRegs t v rf)
+  pub readRegister : (rf : List Register) (r : Reg) → OneAnswer (λ (r′ : Operand). r′ ≡ contents rf r)
+  pub writeRegister : (rf : List Register) (r : Reg) (o : Operand) → OneAnswer (λ (r′ : List Register). r′ ≡ put rf r o)
+  pub isSound : (s : State) (instructions : ℕ) → OneAnswer (λ (r′ : Bool). r′ ≡ Sound.isSound instructions s)
