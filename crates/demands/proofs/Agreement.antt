@@ -19,7 +19,7 @@ use Rattle.sound.proofs.Soundness.{RegistersOk, Sound}
 use Rattle.renaming.specs.declared.Command.{Command}
 use Rattle.renaming.specs.Rules.{accepted}
 use Rattle.renaming.specs.Run.{End, run}
-use Rattle.renaming.proofs.Formed.{AllFormed, program-formed}
+use Rattle.isa.proofs.Formed.{AllFormed, program-formed}
 use Rattle.inorder.specs.declared.Register.{Register}
 use Rattle.inorder.specs.Machine.{steps}
 use Rattle.inorder.specs.Machine as Machine

@@ -34,8 +34,8 @@ use Rattle.renaming.specs.declared.Command.the-variants.{Malformed, Issue, Appl
 use Rattle.records.specs.Refusal.{noInstruction, stalled, full, badTag, needsTag, isUndefined, outside}
 use Rattle.renaming.specs.Rules.{Step, accepted, refused, holding, tried, known, becomes, goTo, rule, apply, tagOk, issueAt, issueFrom, issue}
 use Rattle.renaming.specs.Schedule.{obey}
-use Rattle.renaming.proofs.Formed.{found-inside}
-use Rattle.demands.specs.Conditions.{Condition, _else_, AllHold, FirstFails, isKnown, valueIn, isDefined, wordIn, needs, isAddress, instrAt, isThere, tagFits, conditions}
+use Rattle.records.proofs.Leading.{found-inside}
+use Rattle.demands.specs.Conditions.{Condition, _else_, AllHold, FirstFails, isKnown, valueIn, isDefined, isWithin, needs, isAddress, instrAt, isThere, tagFits, conditions}
 
 -- ---- conditions in order
 
@@ -135,7 +135,7 @@ module _ (σ : Mach) (m : List Value) (pre : List Template) (a : InstrAddr) (pos
 
   loaded-said : (t : Tag) (x : Operand)
       → Said (known (λ u. tried (λ v. becomes σ m pre a post (Done t v)) (readAt m u)) x)
-      ((isKnown x else needsTag) ∷ (isDefined (valueIn x) else isUndefined) ∷ (ltb (wordIn (valueIn x)) (length m) else outside) ∷ [])
+      ((isKnown x else needsTag) ∷ (isDefined (valueIn x) else isUndefined) ∷ (isWithin m (valueIn x) else outside) ∷ [])
   unfolding loadFrom
   loaded-said t (Known Undefined) = passed missed
   loaded-said t (Known (Word w)) = passed (passed (cell-said t w (getElem? m w) refl))
@@ -150,7 +150,7 @@ module _ (σ : Mach) (m : List Value) (pre : List Template) (a : InstrAddr) (pos
 
   written-said : (x v : Value)
       → Said (tried (λ m′. accepted (holding σ (pre ++ post)) m′) (writeAt m x v))
-      ((isDefined x else isUndefined) ∷ (ltb (wordIn x) (length m) else outside) ∷ [])
+      ((isDefined x else isUndefined) ∷ (isWithin m x else outside) ∷ [])
   written-said Undefined v = missed
   written-said (Word w) v =
       passed

@@ -28,7 +28,7 @@ use Rattle.templates.specs.Layout.{Mach, mach}
 use Rattle.sound.proofs.Soundness.{Sound, value-made-once, straight}
 use Rattle.renaming.specs.declared.Rule.{Rule}
 use Rattle.renaming.specs.declared.Rule.the-variants as Rule
-use Rattle.renaming.specs.Rules.{Step, accepted, refused, changed, holding, tried, known, becomes, goTo, rule, apply}
+use Rattle.renaming.specs.Rules.{Step, accepted, refused, holding, tried, known, becomes, goTo, rule, apply}
 use Rattle.renaming.specs.Drain.{drain}
 use Rattle.renaming.proofs.Environment.{Env, resolve}
 use Rattle.renaming.proofs.Cases.{OnStep, Cases, apply-at, apply-cases}
@@ -200,7 +200,7 @@ module _ (σ : Mach) (m : List Value) where
   pub stuck-settled : Stuck σ m → settled σ m ≡ accepted σ m
   stuck-settled f =
       ap (close (σ .registers)) (all-kept [] (σ .held) refl f)
-      ∙ ap (λ (rf : List Register). accepted (changed σ (σ .counter) rf (σ .held)) m) (put-regs-itself (σ .registers))
+      ∙ ap (λ (rf : List Register). accepted (mach (σ .counter) rf (σ .held)) m) (put-regs-itself (σ .registers))
 
 -- ---- so the end is one
 

@@ -25,13 +25,13 @@ use Rattle.templates.specs.declared.Register.{Register}
 use Rattle.templates.specs.declared.Counter.{Counter}
 use Rattle.templates.specs.declared.Counter.the-variants.{At, Stall}
 use Rattle.templates.specs.Templates.{template, register, isMemory, anyHolds, anyReg, fillAll, fillRegs}
-use Rattle.templates.specs.Layout.{Mach}
+use Rattle.templates.specs.Layout.{Mach, mach}
 use Rattle.sound.specs.Sound.{isJz}
 use Rattle.sound.specs.Sound as Sound
 use Rattle.sound.proofs.Soundness.{Ready, WorkOk, RegistersOk, Sound}
 use Rattle.renaming.specs.declared.Rule.{Rule}
 use Rattle.renaming.specs.declared.Rule.the-variants as Rule
-use Rattle.renaming.specs.Rules.{accepted, refused, changed, tried, known, becomes, goTo, rule}
+use Rattle.renaming.specs.Rules.{accepted, refused, tried, known, becomes, goTo, rule}
 use Rattle.renaming.specs.Rules as Rules
 use Rattle.renaming.specs.Drain.{asks}
 use Rattle.renaming.proofs.Environment.{resolve}
@@ -78,7 +78,7 @@ pub no-value : (σ : Mach) (m : List Value) (pre : List Template) (a : InstrAddr
 no-value σ m pre a post t v f =
     let later = was-false (anyHolds t post) (Rules.holding σ (pre ++ template a (Done t v) ∷ fillAll t v post)) m notHeld (f Rule.Forward) in
     let register =
-    was-false (anyReg t (σ .registers)) (changed σ (σ .counter) (fillRegs t v (σ .registers)) (pre ++ template a (Done t v) ∷ post)) m notHeld (f Rule.Commit) in
+    was-false (anyReg t (σ .registers)) (mach (σ .counter) (fillRegs t v (σ .registers)) (pre ++ template a (Done t v) ∷ post)) m notHeld (f Rule.Commit) in
     let some = was-true (anyReg t (σ .registers) || anyHolds t post) (Rules.holding σ (pre ++ post)) m stillHeld (f Rule.Retire) in
     true≢false (sym some ∙ rw (register, later))
 
@@ -136,11 +136,11 @@ known-registers [] h = refl
 known-registers (r ∷ rf) h = ap₂ (λ x y. register x ∷ y) (known-operand (r .holds) (h .0)) (known-registers rf (h .2))
 
 module _ (k : ℕ) (σ : Mach) (m : List Value) where
-  agrees : (c : Counter) (ts : List Template) → let τ = changed σ c (σ .registers) ts in Sound k τ → Stuck τ m → Agrees (outcome τ m) τ m
+  agrees : (c : Counter) (ts : List Template) → let τ = mach c (σ .registers) ts in Sound k τ → Stuck τ m → Agrees (outcome τ m) τ m
   agrees (At p) [] s f = record { empty = refl; counter = refl; registers = known-registers (σ .registers) (s .registers); memory = refl }
   agrees Stall [] s f = absurd (false≢true (s .counter))
   agrees c (x ∷ xs) s f =
-      let τ = changed σ c (σ .registers) (x ∷ xs) in
+      let τ = mach c (σ .registers) (x ∷ xs) in
       let g = facing τ m (x .address) xs (x .work) (s .templates .1)
       (λ r. subst Refused (apply-at r τ m [] x xs refl) (f (record { rule = r; place = 0 }))) in
       rw (g .stops, flush-stopped xs (x .address) (g .why) m)

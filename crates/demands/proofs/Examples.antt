@@ -6,8 +6,7 @@ use Rattle.records.specs.Records.{records}
 use Rattle.value.specs.declared.Value.{Value}
 use Rattle.value.specs.declared.Value.the-variants.{Undefined, Word}
 use Rattle.value.specs.Operation.{result}
-use Rattle.isa.specs.declared.Instr.{Instr}
-use Rattle.isa.specs.declared.Instr.the-variants.{Loadc, Op, Load, Store}
+use Rattle.isa.specs.declared.Instr.the-variants.{Load}
 use Rattle.isa.specs.Instruction.{reg, parse}
 use Rattle.isa.specs.Program.{program}
 use Rattle.cells.specs.Cells as Cells
@@ -25,20 +24,11 @@ use Rattle.renaming.specs.Drain.{Drained, drain, drainFrom, oldest, blocking, b
 use Rattle.inorder.specs.Machine.{step}
 use Rattle.inorder.specs.Machine as Machine
 use Rattle.inorder.specs.Entries as InOrder
+use Rattle.inorder.proofs.Examples.{division}
 use Rattle.demands.specs.Agrees.{Equal}
 use Rattle.demands.specs.Table.{tag, word, r1}
 
 -- ---- one run in full
-
--- r1 := Loadc(6); r2 := Loadc(0); r3 := Div(r1,r2); r4 := Add(r1,r1); Store(r2,r4)
-division : List Instr
-division =
-    Loadc (reg 1) 6 ∷
-    Loadc (reg 2) 0 ∷
-    Op (reg 3) 3 (reg 1) (reg 2) ∷
-    Op (reg 4) 0 (reg 1) (reg 1) ∷
-    Store (reg 2) (reg 4) ∷
-    []
 
 -- two undefined cells
 cells : List Value

@@ -1,4 +1,4 @@
--- An accepted issue makes the outcome one in-order step longer, and a stopped outcome stays stopped.
+-- An accepted issue makes the outcome one in-order step longer.
 use Prim.Native.Nat.{ℕ, zero, suc}
 use mathlib.Core.Path.{_≡_, refl, ap, ap₂, _∙_}
 use mathlib.Core.Bool.{true, false}
@@ -22,16 +22,16 @@ use Rattle.templates.specs.declared.Register.{Register}
 use Rattle.templates.specs.declared.Counter.{Counter}
 use Rattle.templates.specs.declared.Counter.the-variants.{At, Stall}
 use Rattle.templates.specs.Templates.{template, register, waits, anyReg, contents, put}
-use Rattle.templates.specs.Layout.{Mach, capacity}
+use Rattle.templates.specs.Layout.{Mach, mach, capacity}
 use Rattle.sound.specs.Sound.{anyJz}
 use Rattle.sound.proofs.Basics.{by-test, neither}
 use Rattle.sound.proofs.Soundness.{CounterOk, Sound, fresh-unheld}
-use Rattle.renaming.specs.Rules.{Step, changed, tried, isFresh, tagOk, workOf, renamed, counterAfter, issued, issueAt, issueFrom, issue}
+use Rattle.renaming.specs.Rules.{Step, tried, isFresh, tagOk, workOf, renamed, counterAfter, issued, issueAt, issueFrom, issue}
 use Rattle.renaming.proofs.Environment.{Env, resolve}
 use Rattle.renaming.proofs.Cases.{OnStep}
 use Rattle.renaming.proofs.Keeping.{fresh-says}
 use Rattle.inorder.specs.declared.Register.{Register as InOrderRegister}
-use Rattle.inorder.specs.Machine.{perform, step, steps}
+use Rattle.inorder.specs.Machine.{perform, step}
 use Rattle.inorder.specs.Machine as InOrder
 use Rattle.demands.proofs.Binding.{bind, bind-itself}
 use Rattle.demands.proofs.Flush.{execute, flush, values, finish, counterOf, nothing, outcome, flush-append, at, flush-at}
@@ -117,7 +117,7 @@ module _ (prog : List Instr) (t : Tag) (σ : Mach) (m : List Value) (s : Sound (
 
   module _ (ia : InstrAddr) (plain : anyJz (σ .held) ≡ false) where
     abbrev was : Run (List InOrderRegister)
-    was = outcome (changed σ (At ia) (σ .registers) (σ .held)) m
+    was = outcome (mach (At ia) (σ .registers) (σ .held)) m
 
     one-step : (i : Instr) → getElem? prog (ia .0) ≡ some i → Matches t (σ .registers) ia i → (r : Run Env) → r ≡ at ia r
         → finish (renamed (σ .registers) t i) (execute ia (workOf (σ .registers) ia t i) (at (counterOf (counterAfter ia i)) r))
@@ -140,15 +140,10 @@ module _ (prog : List Instr) (t : Tag) (σ : Mach) (m : List Value) (s : Sound (
         by-test (Follows prog was) (leb capacity (length (σ .held))) (λ _. tt)
         (λ _. by-test (Follows prog was) (tagOk (σ .held) t i) (issued-follows i e) (λ _. tt))
 
-  issue-from : (c : Counter) → CounterOk c (σ .held) → Follows prog (outcome (changed σ c (σ .registers) (σ .held)) m) (issueFrom t σ m prog c)
+  issue-from : (c : Counter) → CounterOk c (σ .held) → Follows prog (outcome (mach c (σ .registers) (σ .held)) m) (issueFrom t σ m prog c)
   issue-from (At ia) h = issue-at ia h (getElem? prog (ia .0)) refl
   issue-from Stall h = tt
 
   pub issue-steps-outcome : Follows prog (outcome σ m) (issue prog t σ m)
   unfolding issue
   issue-steps-outcome = issue-from (σ .counter) (s .counter)
-
-pub stays-stopped : (prog : List Instr) (n : ℕ) (ia : InstrAddr) (why : ℕ) (m : List Value) → steps prog n (stopped ia why m) ≡ stopped ia why m
-unfolding step
-stays-stopped prog zero ia why m = refl
-stays-stopped prog (suc n) ia why m = stays-stopped prog n ia why m

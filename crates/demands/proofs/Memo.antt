@@ -3,13 +3,13 @@ use Prim.Native.Nat.{ℕ, suc, _≤_, _<_}
 use native.Mathlib.Omega.{arith}
 use mathlib.Core.Path.{_≡_, refl, sym, ap, subst, _∙_}
 use mathlib.Core.Logic.{_↔_}
-use mathlib.Core.Bool.{Bool, true, false, _&&_, _||_, not, and-eq-true-iff, true≢false, false≢true}
+use mathlib.Core.Bool.{Bool, true, false, _||_, true≢false, false≢true}
 use mathlib.Core.List.{List, [], _∷_, _++_, append-nil}
 use mathlib.Core.Option.{Option, none, some}
 use lib.Dec.{eqb, leb, ltb}
 use lib.ListN.{length, getD, set, take, drop, getElem?}
 use lib.Seq.{split-at, length-take-le}
-use borrow.Author.Tests.{eqb-true, eqb-false, ne-eqb, ltb-true, lt-ltb, leb-true, leb-false, le-leb, lt-leb, not-true}
+use borrow.Author.Tests.{eqb-true, eqb-false, ne-eqb, ltb-true, lt-ltb, leb-false, lt-leb}
 use Rattle.records.specs.Try.{got}
 use Rattle.value.specs.declared.Value.{Value}
 use Rattle.value.specs.declared.Value.the-variants.{Undefined, Word}
@@ -30,10 +30,10 @@ use Rattle.templates.specs.declared.Counter.{Counter}
 use Rattle.templates.specs.declared.Counter.the-variants.{At, Stall}
 use Rattle.templates.specs.Templates.{noTag, blank, anyMakes, anyHolds, anyMemory, anyReg}
 use Rattle.templates.specs.Layout.{Mach, capacity}
-use Rattle.sound.specs.Sound.{lastTag, isJz, anyJz, isEmpty, endsInJz, soundMach}
+use Rattle.sound.specs.Sound.{isJz, anyJz, endsInJz, soundMach}
 use Rattle.sound.proofs.Basics.{by-test, neither}
-use Rattle.sound.proofs.Soundness.{CounterOk}
-use Rattle.sound.proofs.Decides.{sound-said}
+use Rattle.sound.proofs.Soundness.{CounterOk, not-empty}
+use Rattle.sound.proofs.Decides.{new-said, sound-said}
 use Rattle.renaming.specs.declared.Rule.{Rule}
 use Rattle.renaming.specs.declared.Rule.the-variants as Rule
 use Rattle.renaming.specs.declared.Command.{Command}
@@ -49,13 +49,12 @@ use Rattle.demands.proofs.Early.{reads}
 -- ---- conditions
 
 fresh : (t : Tag) (itbs : List Template) → Unused t itbs → isFresh t itbs ≡ true
-fresh t itbs u = rw (lt-ltb 0 (t .0) (u .from), le-leb (t .0) lastTag (u .to), u .new) refl
+fresh t itbs u = new-said (λ s. anyMakes s itbs) t .says (u .from, u .to, u .new)
 
 unused : (t : Tag) (itbs : List Template) → isFresh t itbs ≡ true → Unused t itbs
 unused t itbs e =
-    let h = and-eq-true-iff (ltb 0 (t .0)) (leb (t .0) lastTag && not (anyMakes t itbs)) .0 e in
-    let g = and-eq-true-iff (leb (t .0) lastTag) (not (anyMakes t itbs)) .0 (h .1) in
-    record { from = ltb-true 0 (t .0) (h .0); to = leb-true (t .0) lastTag (g .0); new = not-true (anyMakes t itbs) (g .1) }
+    let h = new-said (λ s. anyMakes s itbs) t .holds e in
+    record { from = h .0; to = h .1; new = h .2 }
 
 writes : (m : List Value) (a : ℕ) (v : Value) → a < length m → writeAt m (Word a) v ≡ got (set m a v)
 writes m a v l = rw (lt-ltb a (length m) l) refl
@@ -107,10 +106,6 @@ module _ (prog : List Instr) where
       apply-at Rule.Store (Proc pc rf (pre ++ x ∷ post)) m pre x post refl ∙ rw (h, writes m w v l) refl
 
 -- ---- a Jz stands last, and the counter is stalled
-
-not-empty : (pre : List Template) (x : Template) (post : List Template) → isEmpty (pre ++ x ∷ post) ≡ false
-not-empty [] x post = refl
-not-empty (y ∷ pre) x post = refl
 
 some-jz : (pre : List Template) (a : InstrAddr) (x y : Operand) (post : List Template) → anyJz (pre ++ ITB a (Jz x y) ∷ post) ≡ true
 some-jz [] a x y post = refl

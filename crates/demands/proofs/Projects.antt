@@ -18,7 +18,7 @@ use Rattle.renaming.specs.declared.Command.the-variants.{Issue, Apply}
 use Rattle.renaming.specs.Rules.{accepted, issue, apply}
 use Rattle.renaming.specs.Schedule.{obey}
 use Rattle.renaming.specs.Drain.{drain}
-use Rattle.renaming.proofs.Formed.{AllFormed, program-formed}
+use Rattle.isa.proofs.Formed.{AllFormed, program-formed}
 use Rattle.renaming.proofs.Keeping.{apply-keeps-sound, issue-keeps-sound}
 use Rattle.inorder.specs.declared.Register.{Register}
 use Rattle.inorder.specs.declared.InOrder.{InOrder}

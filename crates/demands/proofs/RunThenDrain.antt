@@ -45,7 +45,7 @@ use Rattle.renaming.specs.Run.{End, commands}
 use Rattle.renaming.specs.Drain.{Drained, drain, blocking, blockedAt, refusal}
 use Rattle.renaming.specs.Entries.{entered, enteredRun, ended, settled, ran, ranMemory, Runs, drained, drainedMemory, Drains}
 use Rattle.renaming.proofs.Cases.{OnStep, Cases, apply-cases}
-use Rattle.renaming.proofs.Formed.{program-formed}
+use Rattle.isa.proofs.Formed.{program-formed}
 use Rattle.inorder.specs.declared.Ran.{Ran as InOrderRan}
 use Rattle.inorder.specs.Machine as Machine
 use Rattle.inorder.specs.Entries as InOrder

@@ -22,7 +22,7 @@ use Rattle.renaming.specs.Rules.{Step, accepted, refused, issueAt, issued, issu
 use Rattle.renaming.specs.Schedule.{obey}
 use Rattle.renaming.specs.Run.{counted}
 use Rattle.renaming.specs.Drain.{drain}
-use Rattle.renaming.proofs.Formed.{AllFormed, program-formed}
+use Rattle.isa.proofs.Formed.{AllFormed, program-formed}
 use Rattle.renaming.proofs.Keeping.{obey-keeps-sound}
 use Rattle.inorder.specs.declared.Register.{Register}
 use Rattle.inorder.specs.declared.InOrder.{InOrder}

@@ -22,9 +22,9 @@ use Rattle.sound.proofs.Basics.{by-test}
 use Rattle.inorder.specs.declared.Register.{Register}
 use Rattle.inorder.specs.declared.InOrder.{InOrder}
 use Rattle.inorder.specs.Machine.{held, put, perform, step, once}
-use Rattle.renaming.proofs.Formed.{found-inside}
+use Rattle.records.proofs.Leading.{found-inside}
 use Rattle.inorder.proofs.Stops.{Stops, once-stops}
-use Rattle.demands.specs.Conditions.{Condition, _else_, AllHold, FirstFails, isDefined, wordIn, isThere, address, toExecute, fetched, stepConditions}
+use Rattle.demands.specs.Conditions.{Condition, _else_, AllHold, FirstFails, isDefined, isNotZero, isThere, address, toExecute, fetched, stepConditions}
 use Rattle.demands.proofs.Conditions.{never-both, only-one, is-past}
 
 -- what a step says of its conditions
@@ -39,7 +39,7 @@ module _ (ia : InstrAddr) (rf : List Register) (m : List Value) where
   target-says w (Word nia) z = (refl, (rw z refl, tt))
 
   jz-says : (u v : Value)
-      → Says (attempt ia m (λ to. going rf to m) (branch ia u v)) ((isDefined u else isUndefined) ∷ (not (eqb (wordIn u) 0) || isDefined v else isUndefined) ∷ [])
+      → Says (attempt ia m (λ to. going rf to m) (branch ia u v)) ((isDefined u else isUndefined) ∷ (isNotZero u || isDefined v else isUndefined) ∷ [])
   jz-says Undefined v = inl (refl, refl)
   jz-says (Word w) v =
       by-test

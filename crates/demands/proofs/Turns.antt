@@ -17,15 +17,16 @@ use Rattle.renaming.specs.Rules.{Step, accepted, refused}
 use Rattle.renaming.specs.Schedule.{obey}
 use Rattle.renaming.specs.Run.{counted}
 use Rattle.renaming.proofs.Cases.{OnStep}
-use Rattle.renaming.proofs.Formed.{AllFormed}
+use Rattle.isa.proofs.Formed.{AllFormed}
 use Rattle.renaming.proofs.Keeping.{apply-keeps-sound, obey-keeps-sound}
 use Rattle.inorder.specs.declared.Register.{Register}
 use Rattle.inorder.specs.Machine.{steps}
+use Rattle.inorder.proofs.Laws.{stays}
 use Rattle.demands.specs.Moves.{Move, move, andThen, inTurn, continued}
 use Rattle.demands.specs.Schedules.{obeyed, issues}
 use Rattle.demands.proofs.Flush.{outcome}
 use Rattle.demands.proofs.Keeps.{apply-keeps-outcome}
-use Rattle.demands.proofs.Follows.{issue-steps-outcome, stays-stopped}
+use Rattle.demands.proofs.Follows.{issue-steps-outcome}
 use Rattle.demands.proofs.Weight.{weight, at-most-four-each, apply-lowers-weight}
 
 -- ---- what an accepted rule leaves
@@ -115,4 +116,4 @@ module _ (prog : List Instr) (formed : AllFormed prog) where
   pub stopped-for-good : (cs : List Command) (σ : Mach) (m : List Value) {ia : InstrAddr} {why : ℕ} {l : List Value} → Sound (length prog) σ
       → outcome σ m ≡ stopped ia why l → OnStep (λ σ′ m′. outcome σ′ m′ ≡ stopped ia why l) (obeyed prog cs σ m)
   stopped-for-good cs σ m {ia} {why} {l} s e =
-      on-each _ _ (λ σ′ m′ h. h .0 ∙ ap (steps prog (issues cs)) e ∙ stays-stopped prog (issues cs) ia why l) (obeyed prog cs σ m) (obeyed-steps cs σ m s)
+      on-each _ _ (λ σ′ m′ h. h .0 ∙ ap (steps prog (issues cs)) e ∙ stays prog (issues cs) ia why l) (obeyed prog cs σ m) (obeyed-steps cs σ m s)

@@ -47,7 +47,7 @@ use Rattle.renaming.specs.Rules.{Step, accepted, refused, tried, tagOk, workOf,
 use Rattle.renaming.specs.Schedule.{obey}
 use Rattle.renaming.specs.Run.{run}
 use Rattle.renaming.proofs.Cases.{OnStep, Cases, apply-cases}
-use Rattle.renaming.proofs.Formed.{found-inside}
+use Rattle.records.proofs.Leading.{found-inside}
 use Rattle.demands.specs.Schedules.{obeyed}
 use Rattle.demands.specs.Demand1.{AreBytes}
 use Rattle.demands.proofs.Turns.{on-each, on-accepted, in-turn}

@@ -66,9 +66,19 @@ abbrev pub isDefined : Value → Bool
 isDefined Undefined = false
 isDefined (Word w) = true
 
-abbrev pub wordIn : Value → ℕ
-wordIn Undefined = 0
-wordIn (Word w) = w
+-- a Jz condition that is zero, and one that isn't
+abbrev pub isZero : Value → Bool
+isZero Undefined = false
+isZero (Word w) = eqb w 0
+
+abbrev pub isNotZero : Value → Bool
+isNotZero Undefined = false
+isNotZero (Word w) = not (eqb w 0)
+
+-- an address inside memory
+abbrev pub isWithin : List Value → Value → Bool
+isWithin m Undefined = false
+isWithin m (Word w) = ltb w (length m)
 
 -- ---- the kind of template that a rule is for
 
@@ -103,7 +113,7 @@ isStore (Store x y) = true
 -- ---- the rules but issue: of the template with work w, `pre` before it and `post` behind it
 
 module _ (σ : Mach) (m : List Value) (pre post : List Template) (w : Work) where
-  -- its operands, and the words in them
+  -- its operands
   abbrev pub first : Operand
   first = operandAt w 0
 
@@ -120,20 +130,20 @@ module _ (σ : Mach) (m : List Value) (pre post : List Template) (w : Work) wher
       ∷ (not (anyMemory pre) else earlierMemory)
       ∷ (isKnown first else needsTag)
       ∷ (isDefined (valueIn first) else isUndefined)
-      ∷ (ltb (wordIn (valueIn first)) (length m) else outside)
+      ∷ (isWithin m (valueIn first) else outside)
       ∷ []
   needs Rule.Store =
       (isStore w else otherKind)
       ∷ (not (anyMemory pre) else earlierMemory)
       ∷ (isKnown first && isKnown second else needsTag)
       ∷ (isDefined (valueIn first) else isUndefined)
-      ∷ (ltb (wordIn (valueIn first)) (length m) else outside)
+      ∷ (isWithin m (valueIn first) else outside)
       ∷ []
   needs Rule.Jump =
       (isJz w else otherKind)
       ∷ (isKnown first else needsTag)
       ∷ (isDefined (valueIn first) else isUndefined)
-      ∷ (eqb (wordIn (valueIn first)) 0 else otherWay)
+      ∷ (isZero (valueIn first) else otherWay)
       ∷ (isKnown second else needsTag)
       ∷ (isDefined (valueIn second) else isUndefined)
       ∷ []
@@ -141,7 +151,7 @@ module _ (σ : Mach) (m : List Value) (pre post : List Template) (w : Work) wher
       (isJz w else otherKind)
       ∷ (isKnown first else needsTag)
       ∷ (isDefined (valueIn first) else isUndefined)
-      ∷ (not (eqb (wordIn (valueIn first)) 0) else otherWay)
+      ∷ (isNotZero (valueIn first) else otherWay)
       ∷ []
 
 -- ---- issue
@@ -180,7 +190,7 @@ conditions prog (Apply r k) σ m =
 
 module _ (rf : List Register) (m : List Value) where
   abbrev pub address : Value → List Condition
-  address v = (isDefined v else isUndefined) ∷ (ltb (wordIn v) (length m) else outside) ∷ []
+  address v = (isDefined v else isUndefined) ∷ (isWithin m v else outside) ∷ []
 
   -- a taken Jz needs its target
   abbrev pub toExecute : Instr → List Condition
@@ -189,7 +199,7 @@ module _ (rf : List Register) (m : List Value) where
   toExecute (Instr.Op r n r₁ r₂) = []
   toExecute (Instr.Jz r₁ r₂) =
       (isDefined (held rf r₁) else isUndefined)
-      ∷ (not (eqb (wordIn (held rf r₁)) 0) || isDefined (held rf r₂) else isUndefined)
+      ∷ (isNotZero (held rf r₁) || isDefined (held rf r₂) else isUndefined)
       ∷ []
   toExecute (Instr.Load r r₁) = address (held rf r₁)
   toExecute (Instr.Store r₁ r₂) = address (held rf r₁)

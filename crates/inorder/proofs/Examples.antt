@@ -1,8 +1,6 @@
 -- The division example, run in order by computation: r3 stays undefined, and cell 0 holds 12.
 use mathlib.Core.Path.{_≡_, refl}
-use Prim.Native.Nat.{ℕ}
 use mathlib.Core.List.{List, [], _∷_}
-use Rattle.value.specs.declared.Value.{Value}
 use Rattle.value.specs.declared.Value.the-variants.{Undefined, Word}
 use Rattle.value.specs.Operation.{result}
 use Rattle.isa.specs.declared.Instr.{Instr}
@@ -12,7 +10,7 @@ use Rattle.inorder.specs.Machine.{start, held, step}
 use Rattle.inorder.specs.Entries.{End, runFrom}
 
 -- r1 := Loadc(6); r2 := Loadc(0); r3 := Div(r1,r2); r4 := Add(r1,r1); Store(r2,r4)
-division : List Instr
+unfoldable pub division : List Instr
 division =
     Loadc (reg 1) 6 ∷
     Loadc (reg 2) 0 ∷

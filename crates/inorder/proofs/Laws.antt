@@ -2,11 +2,10 @@
 use mathlib.Core.Path.{_≡_, refl, sym, ap, _∙_}
 use mathlib.Core.Logic.{_≢_}
 use Prim.Native.Nat.{ℕ, zero, suc, _+_, _<_}
-use native.Mathlib.Nat.{add-suc, suc-add, zero-add}
+use native.Mathlib.Nat.{suc-add, zero-add}
 use native.Mathlib.Omega.{arith}
 use mathlib.Core.List.{List}
-use lib.ListN.{getD}
-use borrow.Author.Tests.{eq-eqb, ne-eqb}
+use borrow.Author.Tests.{ne-eqb}
 use Rattle.value.specs.declared.Value.{Value}
 use Rattle.isa.specs.declared.InstrAddr.{InstrAddr}
 use Rattle.isa.specs.declared.Instr.{Instr}
@@ -54,7 +53,7 @@ CameTo n k e (going rf ia m) = e ≡ record { machine = machine ia rf; executed 
 CameTo n k e (stopped ia why m) = (e .machine .counter ≡ ia) × (e .stop ≡ why) × (e .memory ≡ m) × (e .executed < n + k)
 
 module _ (prog : List Instr) where
-  stays : (k : ℕ) (ia : InstrAddr) (why : ℕ) (m : List Value) → steps prog k (stopped ia why m) ≡ stopped ia why m
+  pub stays : (k : ℕ) (ia : InstrAddr) (why : ℕ) (m : List Value) → steps prog k (stopped ia why m) ≡ stopped ia why m
   unfolding step
   stays zero ia why m = refl
   stays (suc k) ia why m = stays k ia why m

@@ -4,3 +4,4 @@ pub mod RoundTrip
 pub mod Programs
 pub mod Examples
 pub mod Ranges
+pub mod Formed

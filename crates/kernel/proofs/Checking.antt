@@ -22,7 +22,7 @@ pub record Accepted (p b : List ℕ) : Type 0 where
   pub program : Program.scanOf p ≡ accepted
   pub memory : Cells.scanOf b ≡ accepted
 
-both-accept : (v w : Verdict) → first v w .refusal ≡ 0 → (v .refusal ≡ 0) × (w .refusal ≡ 0)
+pub both-accept : (v w : Verdict) → first v w .refusal ≡ 0 → (v .refusal ≡ 0) × (w .refusal ≡ 0)
 both-accept v w = go (eqb (v .refusal) 0) refl
   where
     go : (t : Bool) → eqb (v .refusal) 0 ≡ t → cond t w v .refusal ≡ 0 → (v .refusal ≡ 0) × (w .refusal ≡ 0)

@@ -37,13 +37,13 @@ module _ (b : List ℕ) (n : ℕ) {f : Found} (e : f ≡ found (getElem? (record
   pub read-nothing : f ≡ Nothing → getElem? (records b) n ≡ none
   read-nothing g = found-nothing (getElem? (records b) n) (sym e ∙ g)
 
-within : {A : Type 0} (xs : List A) (n : ℕ) {x : A} → getElem? xs n ≡ some x → n < length xs
-within [] n e = let z : _≡_ {A = ℕ} 0 1 = cc in absurd (omega arith)
-within (y ∷ xs) zero e = omega arith
-within (y ∷ xs) (suc n) e = omega (arith, within xs n e)
+pub found-inside : {A : Type 0} (xs : List A) (n : ℕ) {x : A} → getElem? xs n ≡ some x → n < length xs
+found-inside [] n e = let z : _≡_ {A = ℕ} 0 1 = cc in absurd (omega arith)
+found-inside (y ∷ xs) zero e = omega arith
+found-inside (y ∷ xs) (suc n) e = omega (arith, found-inside xs n e)
 
 pub record-within : (b : List ℕ) (n : ℕ) {r : Record} → getElem? (records b) n ≡ some r → n < length b / 8
-record-within b n e = rw length-records at (within (records b) n e)
+record-within b n e = rw length-records at (found-inside (records b) n e)
 
 pub drop-some : {A : Type 0} (xs : List A) (n : ℕ) {x : A} → getElem? xs n ≡ some x → drop n xs ≡ x ∷ drop (suc n) xs
 drop-some [] n e = let z : _≡_ {A = ℕ} 0 1 = cc in absurd (omega arith)

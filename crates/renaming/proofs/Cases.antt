@@ -25,10 +25,10 @@ use Rattle.templates.specs.declared.Work.{Work}
 use Rattle.templates.specs.declared.Work.the-variants.{Done, Op, Jz, Load, Store}
 use Rattle.templates.specs.declared.Template.{Template}
 use Rattle.templates.specs.Templates.{template, blank, anyHolds, anyMemory, anyReg, fillAll, fillRegs}
-use Rattle.templates.specs.Layout.{Mach}
+use Rattle.templates.specs.Layout.{Mach, mach}
 use Rattle.renaming.specs.declared.Rule.{Rule}
 use Rattle.renaming.specs.declared.Rule.the-variants as Rule
-use Rattle.renaming.specs.Rules.{Step, accepted, refused, changed, holding, tried, known, condition, onValue, onOp, onJz, onLoad, onStore, becomes, goTo, rule, apply}
+use Rattle.renaming.specs.Rules.{Step, accepted, refused, holding, tried, known, condition, onValue, onOp, onJz, onLoad, onStore, becomes, goTo, rule, apply}
 use Rattle.sound.proofs.Basics.{by-test, neither}
 use Rattle.renaming.proofs.Environment.{Env, resolve}
 use Rattle.renaming.proofs.Order.{MayLoad, MayStore, may-load, may-store}
@@ -45,7 +45,7 @@ pub record Cases (σ : Mach) (m : List Value) (pre : List Template) (a : InstrAd
   pub forwards : (t : Tag) (v : Value) → anyHolds t post ≡ true
       → P (Done t v) (accepted (holding σ (pre ++ template a (Done t v) ∷ fillAll t v post)) m)
   pub commits : (t : Tag) (v : Value) → anyReg t (σ .registers) ≡ true
-      → P (Done t v) (accepted (changed σ (σ .counter) (fillRegs t v (σ .registers)) (pre ++ template a (Done t v) ∷ post)) m)
+      → P (Done t v) (accepted (mach (σ .counter) (fillRegs t v (σ .registers)) (pre ++ template a (Done t v) ∷ post)) m)
   pub retires : (t : Tag) (v : Value) → anyReg t (σ .registers) ≡ false → anyHolds t post ≡ false
       → P (Done t v) (accepted (holding σ (pre ++ post)) m)
   pub loads : (t : Tag) (x : ℕ) (v : Value) → getElem? m x ≡ some v → MayLoad x (length m) pre

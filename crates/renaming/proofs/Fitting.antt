@@ -1,14 +1,12 @@
 -- A state that was checked is the layout of a sound machine, and stays one.
 use mathlib.Core.Path.{_≡_, refl, sym, ap, ap₂, subst, _∙_}
 use mathlib.Core.Logic.{_≢_}
-use Prim.Native.Nat.{ℕ, zero, suc, _/_, _<_, _≤_}
+use Prim.Native.Nat.{ℕ, zero, suc, _/_, _<_}
 use native.Mathlib.Omega.{arith}
 use mathlib.Core.Bool.{Bool, true, false, cond}
 use mathlib.Core.List.{List, [], _∷_}
-use lib.Dec.{eqb}
 use lib.ListN.{length, getD}
 use lib.Seq.{getD-take}
-use borrow.Author.Tests.{eqb-true, eqb-false}
 use Rattle.records.specs.declared.Verdict.{Verdict}
 use Rattle.records.specs.Refusal.{unsound}
 use Rattle.records.specs.Scan.{verdict, accepted}
@@ -16,8 +14,8 @@ use Rattle.isa.specs.Program.{program}
 use Rattle.isa.specs.Program as Program
 use Rattle.isa.proofs.Programs.{length-program, program-whole}
 use Rattle.cells.specs.Cells.{cells, Formed}
-use Rattle.kernel.specs.Checks.{first, checked}
-use Rattle.kernel.proofs.Checking.{checked-program, checked-memory}
+use Rattle.kernel.specs.Checks.{checked}
+use Rattle.kernel.proofs.Checking.{both-accept, checked-program, checked-memory}
 use Rattle.templates.specs.declared.Template.{Template}
 use Rattle.templates.specs.declared.State.{State}
 use Rattle.templates.specs.Templates.{blank}
@@ -33,18 +31,11 @@ use Rattle.renaming.specs.Rules.{Step, refused}
 use Rattle.renaming.specs.Schedule.{obey}
 use Rattle.renaming.specs.Answers.{Fit, Within, Acts, Obeys}
 use Rattle.renaming.specs.Entries.{entered, Enters}
-use Rattle.renaming.proofs.Formed.{program-formed}
+use Rattle.isa.proofs.Formed.{program-formed}
 use Rattle.renaming.proofs.Keeping.{StaysSound, obey-keeps-sound}
 use Rattle.renaming.proofs.Numbered.{Numbered, obey-numbered}
 
 -- ---- what the checks say
-
-entered-both : (v w : Verdict) → first v w .refusal ≡ 0 → (v .refusal ≡ 0) × (w .refusal ≡ 0)
-entered-both v w = go (eqb (v .refusal) 0) refl
-  where
-    go : (t : Bool) → eqb (v .refusal) 0 ≡ t → cond t w v .refusal ≡ 0 → (v .refusal ≡ 0) × (w .refusal ≡ 0)
-    go true e h = (eqb-true (v .refusal) 0 e, h)
-    go false e h = absurd (eqb-false (v .refusal) 0 e h)
 
 is-sound : (t : Bool) → cond t accepted (verdict unsound 0) .refusal ≡ 0 → t ≡ true
 is-sound true e = refl
@@ -54,7 +45,7 @@ module _ (p b : List ℕ) (s : State) {v : Verdict} (e : Enters p b s v) (h : v 
   passed : (checked p b .refusal ≡ 0) × (isSound (length p / 8) s ≡ true)
   unfolding entered
   passed =
-      let both = entered-both (checked p b) (cond (isSound (length p / 8) s) accepted (verdict unsound 0)) (sym (ap (λ (w : Verdict). w .refusal) (e .verdict)) ∙ h) in
+      let both = both-accept (checked p b) (cond (isSound (length p / 8) s) accepted (verdict unsound 0)) (sym (ap (λ (w : Verdict). w .refusal) (e .verdict)) ∙ h) in
       (both .0, is-sound (isSound (length p / 8) s) (both .1))
 
   pub entered-program : Program.scanOf p ≡ accepted

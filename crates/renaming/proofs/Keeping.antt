@@ -2,12 +2,12 @@
 use Prim.Native.Nat.{ℕ, zero, suc, _≤_, _<_}
 use native.Mathlib.Omega.{arith}
 use mathlib.Core.Path.{_≡_, refl, sym, ap, subst, _∙_}
-use mathlib.Core.Bool.{true, false, _&&_, not, true≢false, and-eq-true-iff}
+use mathlib.Core.Bool.{true, false, _&&_, true≢false, and-eq-true-iff}
 use mathlib.Core.List.{List, [], _∷_, _++_}
 use mathlib.Core.Option.{Option, none, some}
-use lib.Dec.{ltb, leb}
+use lib.Dec.{leb}
 use lib.ListN.{length, set, getElem?, length-append, length-map}
-use borrow.Author.Tests.{ltb-true, leb-true, leb-false, not-true}
+use borrow.Author.Tests.{leb-true, leb-false}
 use Rattle.value.specs.declared.Value.{Value}
 use Rattle.value.specs.declared.Value.the-variants.{Word}
 use Rattle.value.specs.Operation.{result}
@@ -28,18 +28,20 @@ use Rattle.templates.specs.declared.Register.{Register}
 use Rattle.templates.specs.declared.Counter.{Counter}
 use Rattle.templates.specs.declared.Counter.the-variants.{At, Stall}
 use Rattle.templates.specs.Templates.{sameTag, template, register, waits, contents, put, anyMakes, anyReg, fillAll, fillTemplate}
-use Rattle.templates.specs.Layout.{Mach, capacity}
+use Rattle.templates.specs.Layout.{Mach, mach, capacity}
 use Rattle.sound.specs.Sound.{lastTag, Produced, also, after, afterAll, isJz, anyJz, endsInJz}
 use Rattle.sound.specs.Sound as Sound
 use Rattle.sound.proofs.Basics.{by-test, neither, tags-differ}
 use Rattle.sound.proofs.Soundness.{Ready, New, WorkOk, TemplatesOk, Alone, RegistersOk, CounterOk, Sound, templates-left, templates-right, templates-append, produced-append, also-itself, also-keeps, produced-other, none-holds, any-jz-append, no-jz-append, ends-append, ends-parts, straight, jz-last}
+use Rattle.sound.proofs.Decides.{new-said}
 use Rattle.renaming.specs.declared.Rule.{Rule}
 use Rattle.renaming.specs.declared.Command.{Command}
 use Rattle.renaming.specs.declared.Command.the-variants.{Malformed, Issue, Apply}
-use Rattle.renaming.specs.Rules.{Step, changed, holding, tried, apply, isFresh, tagOk, issued, issueAt, issueFrom, issue}
+use Rattle.renaming.specs.Rules.{Step, holding, tried, apply, isFresh, tagOk, issued, issueAt, issueFrom, issue}
 use Rattle.renaming.specs.Schedule.{obey}
 use Rattle.renaming.proofs.Cases.{OnStep, Cases, apply-cases}
-use Rattle.renaming.proofs.Formed.{AllFormed, found-inside, found-formed}
+use Rattle.records.proofs.Leading.{found-inside}
+use Rattle.isa.proofs.Formed.{AllFormed, found-formed}
 use Rattle.renaming.proofs.Filling.{templates-fill, produced-fill, registers-fill, any-jz-fill, ends-fill}
 use Rattle.renaming.proofs.Removing.{without-itself, without-all, templates-without, registers-without}
 
@@ -72,7 +74,7 @@ module _ (k : ℕ) (σ : Mach) (m : List Value) (pre : List Template) (a : Instr
 
   -- with other templates from there on, other registers and another counter
   anew : (w : Work) → Was w → (c : Counter) (rf : List Register) (ys : List Template) → length ys ≤ suc (length post) → TemplatesOk k before ys
-      → RegistersOk (afterAll ys before) rf → CounterOk c (pre ++ ys) → Sound k (changed σ c rf (pre ++ ys))
+      → RegistersOk (afterAll ys before) rf → CounterOk c (pre ++ ys) → Sound k (mach c rf (pre ++ ys))
   anew w s c rf ys l t r e =
       record {
         few = omega (arith, length-append pre ys, length-append pre (template a w ∷ post), s .few);
@@ -92,7 +94,7 @@ module _ (k : ℕ) (σ : Mach) (m : List Value) (pre : List Template) (a : Instr
       (counter-kept (σ .counter) pre (template a w) post (template a (Done t v) ∷ post) (rw j) (rw j) (s .counter))
 
   -- a template that makes no tag goes
-  goes-sound : (w : Work) (c : Counter) → after w before ≡ before → Was w → CounterOk c (pre ++ post) → Sound k (changed σ c (σ .registers) (pre ++ post))
+  goes-sound : (w : Work) (c : Counter) → after w before ≡ before → Was w → CounterOk c (pre ++ post) → Sound k (mach c (σ .registers) (pre ++ post))
   goes-sound w c e s f =
       anew w s c (σ .registers) post (omega arith)
       (subst (λ (d : Produced). TemplatesOk k d post) e (was-templates w s .2))
@@ -135,10 +137,7 @@ apply-keeps-sound k r place σ m s =
 -- ---- issue
 
 pub fresh-says : (t : Tag) (ts : List Template) → isFresh t ts ≡ true → (0 < t .0) × (t .0 ≤ lastTag) × (anyMakes t ts ≡ false)
-fresh-says t ts e =
-    let h = and-eq-true-iff (ltb 0 (t .0)) (leb (t .0) lastTag && not (anyMakes t ts)) .0 e in
-    let g = and-eq-true-iff (leb (t .0) lastTag) (not (anyMakes t ts)) .0 (h .1) in
-    (ltb-true 0 (t .0) (h .0), leb-true (t .0) lastTag (g .0), not-true (anyMakes t ts) (g .1))
+fresh-says t ts e = new-said (λ s. anyMakes s ts) t .holds e
 
 ready-also : (made : Produced) (t : Tag) (x : Operand) → Ready made x → Ready (also t made) x
 ready-also made t (Known v) h = tt
@@ -188,7 +187,7 @@ module _ (k : ℕ) (t : Tag) (σ : Mach) (m : List Value) (s : Sound k σ) (plai
   all = afterAll ts Sound.none
 
   added : (w : Work) (c : Counter) (rf′ : List Register) → WorkOk all w → RegistersOk (after w all) rf′ → CounterOk c (ts ++ template ia w ∷ [])
-      → Sound k (changed σ c rf′ (ts ++ template ia w ∷ []))
+      → Sound k (mach c rf′ (ts ++ template ia w ∷ []))
   added w c rf′ h r e =
       record {
         few = omega (arith, length-append ts (template ia w ∷ []));
@@ -204,7 +203,7 @@ module _ (k : ℕ) (t : Tag) (σ : Mach) (m : List Value) (s : Sound k σ) (plai
   ready r = ready-at all rf r (s .registers)
 
   writes : (r : Reg) (w : Work) → isJz w ≡ false → after w all ≡ also t all → (New all t → WorkOk all w) → isFresh t ts ≡ true
-      → Sound k (changed σ (At (next ia)) (put rf r (Waits t)) (ts ++ template ia w ∷ []))
+      → Sound k (mach (At (next ia)) (put rf r (Waits t)) (ts ++ template ia w ∷ []))
   writes r w j e ok f =
       let new = fresh-new f in
       added w (At (next ia)) (put rf r (Waits t)) (ok new) (rw e (registers-set all t rf (r .0) (new .2) (s .registers)))

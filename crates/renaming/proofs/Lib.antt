@@ -7,7 +7,6 @@ pub mod Issuing
 pub mod Environment
 pub mod Order
 pub mod Cases
-pub mod Formed
 pub mod Filling
 pub mod Removing
 pub mod Keeping

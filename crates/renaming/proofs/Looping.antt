@@ -14,7 +14,7 @@ use Rattle.renaming.specs.Rules.{Step, accepted, refused, apply}
 use Rattle.renaming.specs.Schedule.{obey}
 use Rattle.renaming.specs.Run.{counted, proceed, runFrom}
 use Rattle.renaming.specs.Drain.{first, rules, firstOf, seek, oldest, further, drainFrom}
-use Rattle.renaming.proofs.Formed.{AllFormed}
+use Rattle.isa.proofs.Formed.{AllFormed}
 use Rattle.renaming.proofs.Keeping.{StaysSound, apply-keeps-sound, obey-keeps-sound}
 use Rattle.renaming.proofs.Numbered.{Numbered, apply-numbered}
 

@@ -1,16 +1,15 @@
 -- The nine rules of the memo's section 5, on the machine without blanks.
 use Prim.Native.Nat.{ℕ, suc}
-use mathlib.Core.Bool.{Bool, cond, _||_, _&&_, not}
+use mathlib.Core.Bool.{Bool, cond, _||_}
 use mathlib.Core.List.{List, [], _∷_, _++_}
 use lib.Dec.{eqb, leb, ltb}
 use lib.ListN.{length, getD, take, drop, getElem?}
-use Rattle.records.specs.Refusal.{noInstruction, stalled, full, badTag, noTemplate, otherKind, needsTag, notHeld, stillHeld, earlierMemory, isUndefined, otherWay}
+use Rattle.records.specs.Refusal.{stalled, full, badTag, noTemplate, otherKind, needsTag, notHeld, stillHeld, earlierMemory, isUndefined, otherWay}
 use Rattle.records.specs.Try.{Try, got, fails}
 use Rattle.value.specs.declared.Value.{Value}
 use Rattle.value.specs.declared.Value.the-variants.{Undefined, Word}
 use Rattle.value.specs.Operation.{result}
 use Rattle.isa.specs.declared.InstrAddr.{InstrAddr}
-use Rattle.isa.specs.declared.Reg.{Reg}
 use Rattle.isa.specs.declared.Tag.{Tag}
 use Rattle.isa.specs.declared.Instr.{Instr}
 use Rattle.isa.specs.declared.Instr.the-variants as Instr
@@ -26,7 +25,7 @@ use Rattle.templates.specs.declared.Counter.{Counter}
 use Rattle.templates.specs.declared.Counter.the-variants.{At, Stall}
 use Rattle.templates.specs.Templates.{template, blank, anyMakes, anyHolds, anyMemory, anyReg, fillAll, fillRegs, contents, put}
 use Rattle.templates.specs.Layout.{Mach, mach, capacity}
-use Rattle.sound.specs.Sound.{lastTag}
+use Rattle.sound.specs.Sound.{isNew}
 use Rattle.renaming.specs.declared.Rule.{Rule}
 use Rattle.renaming.specs.declared.Rule.the-variants as Rule
 
@@ -35,12 +34,9 @@ pub data Step : Type 0 where
   accepted : Mach → List Value → Step
   refused : ℕ → Step
 
--- the machine σ with another counter, other registers and other templates
-abbrev pub changed : Mach → Counter → List Register → List Template → Mach
-changed σ c rf ts = mach c rf ts
-
+-- the machine with other templates
 abbrev pub holding : Mach → List Template → Mach
-holding σ ts = changed σ (σ .counter) (σ .registers) ts
+holding σ ts = mach (σ .counter) (σ .registers) ts
 
 -- ---- conditions, each with its number for no
 
@@ -123,7 +119,7 @@ module _ (σ : Mach) (m : List Value) (pre : List Template) (a : InstrAddr) (pos
       onValue
       (λ t v.
       cond (anyReg t (σ .registers))
-      (accepted (changed σ (σ .counter) (fillRegs t v (σ .registers)) (pre ++ template a (Done t v) ∷ post)) m)
+      (accepted (mach (σ .counter) (fillRegs t v (σ .registers)) (pre ++ template a (Done t v) ∷ post)) m)
       (refused notHeld))
 
   abbrev pub retire : Work → Step
@@ -148,11 +144,11 @@ module _ (σ : Mach) (m : List Value) (pre : List Template) (a : InstrAddr) (pos
       (λ x y.
       cond (anyMemory pre)
       (refused earlierMemory)
-      (known (λ u. known (λ v. tried (λ m′. accepted (holding σ (pre ++ post)) m′) (writeAt m u v)) y) x))
+      (known (λ u. known (λ v. storing σ pre post (writeAt m u v)) y) x))
 
   -- the Jz is removed, and the counter is set
   abbrev pub goTo : InstrAddr → Step
-  goTo ia = accepted (changed σ (At ia) (σ .registers) (pre ++ post)) m
+  goTo ia = accepted (mach (At ia) (σ .registers) (pre ++ post)) m
 
   abbrev pub jump : Work → Step
   jump = onJz (λ x y. known (λ u. condition (known (λ v. tried goTo (target v)) y) (refused otherWay) u) x)
@@ -183,7 +179,7 @@ apply r k σ m =
 
 -- the tag lies in 1 to 64, and no template produces it
 abbrev pub isFresh : Tag → List Template → Bool
-isFresh t ts = ltb 0 (t .0) && (leb (t .0) lastTag && not (anyMakes t ts))
+isFresh t ts = isNew (λ s. anyMakes s ts) t
 
 -- a writing instruction needs a fresh tag; Jz and Store need 0
 abbrev pub tagOk : List Template → Tag → Instr → Bool
@@ -224,7 +220,7 @@ module _ (t : Tag) (σ : Mach) (m : List Value) where
   -- the machine with the instruction as its last template
   abbrev pub issued : InstrAddr → Instr → Mach
   issued ia i =
-      changed σ (counterAfter ia i) (renamed (σ .registers) t i)
+      mach (counterAfter ia i) (renamed (σ .registers) t i)
       (σ .held ++ template ia (workOf (σ .registers) ia t i) ∷ [])
 
   abbrev pub issueAt : InstrAddr → Instr → Step

@@ -2,8 +2,8 @@
 ghost use mathlib.Core.Path.{_≡_};
 ghost use mathlib.Core.List.{_∷_, _++_};
 ghost use Rattle.templates.specs.Templates.{template, fillAll, fillRegs};
-ghost use Rattle.templates.specs.Layout.{machOf};
-ghost use Rattle.renaming.specs.Rules.{changed, holding};
+ghost use Rattle.templates.specs.Layout.{mach, machOf};
+ghost use Rattle.renaming.specs.Rules.{holding};
 ghost use Rattle.renaming.specs.Answers.{answer, done, before, behind, Stands};
 use crate::Answer;
 use isa::InstrAddr;
@@ -24,6 +24,12 @@ pub(crate) fn refused(s: State, n: u8) -> Answer
     }
 }
 
+pub(crate) fn accepted(s: State) -> Answer
+    ensures { λ r. ⌜ r ≡ answer s 0 ⌝ }
+{
+    refused(s, 0)
+}
+
 // The template x at place p gets other work.
 pub(crate) fn rework(s: State, p: usize, x: Template, was: Work, w: Work) -> Answer
     requires { ⌜ Stands s p x was ⌝ }
@@ -35,7 +41,7 @@ pub(crate) fn rework(s: State, p: usize, x: Template, was: Work, w: Work) -> Ans
         address: address,
         work: w,
     };
-    refused(next, 0)
+    accepted(next)
 }
 
 // The tag filled in behind the value template x at place p.
@@ -47,19 +53,19 @@ pub(crate) fn fill_behind(s: State, p: usize, x: Template, t: Tag, v: Value) -> 
     let filled = table::fill_from(ts, p + 1, t, v);
     let mut next = s;
     next.templates = filled;
-    refused(next, 0)
+    accepted(next)
 }
 
 // The tag filled in in the registers; the value template x stays at place p.
 pub(crate) fn fill_register(s: State, p: usize, x: Template, t: Tag, v: Value) -> Answer
     requires { ⌜ Stands s p x (Work.Done t v) ⌝ }
-    ensures { λ r. ⌜ r ≡ done (changed (machOf s) (s .counter) (fillRegs t v (s .registers)) (before s p ++ template (x .address) (Work.Done t v) ∷ behind s p)) ⌝ }
+    ensures { λ r. ⌜ r ≡ done (mach (s .counter) (fillRegs t v (s .registers)) (before s p ++ template (x .address) (Work.Done t v) ∷ behind s p)) ⌝ }
 {
     let rf = s.registers;
     let filled = table::fill_registers(rf, t, v);
     let mut next = s;
     next.registers = filled;
-    refused(next, 0)
+    accepted(next)
 }
 
 // The template x at place p is removed.
@@ -73,13 +79,13 @@ pub(crate) fn remove(s: State, p: usize, x: Template, was: Work) -> Answer
     let mut next = s;
     next.templates = left;
     next.count = n - 1;
-    refused(next, 0)
+    accepted(next)
 }
 
 // The Jz x at place p is removed, and the counter is set.
 pub(crate) fn go_to(s: State, p: usize, x: Template, was: Work, ia: InstrAddr) -> Answer
     requires { ⌜ Stands s p x was ⌝ }
-    ensures { λ r. ⌜ r ≡ done (changed (machOf s) (Counter.At ia) (s .registers) (before s p ++ behind s p)) ⌝ }
+    ensures { λ r. ⌜ r ≡ done (mach (Counter.At ia) (s .registers) (before s p ++ behind s p)) ⌝ }
 {
     let ts = s.templates;
     let rf = s.registers;
@@ -91,5 +97,5 @@ pub(crate) fn go_to(s: State, p: usize, x: Template, was: Work, ia: InstrAddr) -
         templates: left,
         count: n - 1,
     };
-    refused(next, 0)
+    accepted(next)
 }

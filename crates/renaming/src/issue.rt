@@ -122,7 +122,7 @@ fn issue_at(s: State, t: Tag, ia: InstrAddr, i: Instr) -> Answer
         templates: ts,
         count: n + 1,
     };
-    change::refused(next, 0)
+    change::accepted(next)
 }
 
 pub(crate) fn issue(s: State, program: &[u8], t: Tag) -> Answer

@@ -5,7 +5,7 @@ use mathlib.Core.Bool.{Bool, true, false, _&&_, not, and-eq-true-iff, false≢tr
 use mathlib.Core.List.{List, [], _∷_, _++_}
 use lib.Dec.{ltb, leb}
 use lib.ListN.{length, take, drop, replicate, length-drop, take-append-drop}
-use lib.Seq.{length-take-le, take-append-seam, drop-append-seam}
+use lib.Seq.{length-take-le, drop-append-seam}
 use borrow.Author.Tests.{eqb-true, ltb-true, lt-ltb, leb-true, le-leb, not-true}
 use Rattle.value.specs.declared.Value.the-variants.{Undefined, Word}
 use Rattle.isa.specs.declared.Tag.{Tag}
@@ -20,7 +20,8 @@ use Rattle.templates.specs.declared.Counter.{Counter}
 use Rattle.templates.specs.declared.Counter.the-variants.{At, Stall}
 use Rattle.templates.specs.declared.State.{State}
 use Rattle.templates.specs.Templates.{blank, anyReg}
-use Rattle.templates.specs.Layout.{Mach, mach, capacity, lay, machOf, stateOf, Laid}
+use Rattle.templates.specs.Layout.{Mach, capacity, lay, machOf, stateOf, Laid}
+use Rattle.templates.proofs.Places.{machOf-stateOf}
 use Rattle.sound.specs.Sound.{lastTag, Produced, none, after, afterAll, isNew, isReady, workOk, templatesOk, isAlone, registersOk, anyJz, endsInJz, counterOk, blankWork, isBlank, allBlank, soundMach, isSound}
 use Rattle.sound.proofs.Soundness.{Ready, New, WorkOk, TemplatesOk, Alone, RegistersOk, CounterOk, Sound}
 
@@ -64,7 +65,7 @@ four-say p q r s =
 
 -- ---- of a machine, part by part
 
-new-said : (made : Produced) (t : Tag) → Decides (isNew made t) (New made t)
+pub new-said : (made : Produced) (t : Tag) → Decides (isNew made t) (New made t)
 new-said made t = three-say (below 0 (t .0)) (at-most (t .0) lastTag) (is-not (made t))
 
 ready-said : (made : Produced) (x : Operand) → Decides (isReady made x) (Ready made x)
@@ -157,13 +158,10 @@ module _ (k : ℕ) (s : State) (long : length (s .templates) ≡ capacity) (e : 
   pub sound-machine : Sound k (machOf s)
   sound-machine = sound-said k (machOf s) .holds (parts .2)
 
-pub machine-again : (σ : Mach) → machOf (stateOf σ) ≡ σ
-machine-again σ = ap (mach (σ .counter) (σ .registers)) (take-append-seam (σ .held) (replicate (capacity - length (σ .held)) blank))
-
 pub sound-state : (k : ℕ) (σ : Mach) → Sound k σ → isSound k (stateOf σ) ≡ true
 unfolding isSound
 sound-state k σ s =
     let n = capacity - length (σ .held) in
     let behind : allBlank (drop (length (σ .held)) (lay (σ .held))) ≡ true = ap allBlank (drop-append-seam (σ .held) (replicate n blank)) ∙ blanks n in
-    let machine : soundMach k (machOf (stateOf σ)) ≡ true = ap (soundMach k) (machine-again σ) ∙ sound-said k σ .says s in
+    let machine : soundMach k (machOf (stateOf σ)) ≡ true = ap (soundMach k) (machOf-stateOf σ) ∙ sound-said k σ .says s in
     rw (le-leb (length (σ .held)) capacity (s .few), behind, machine) refl

@@ -168,7 +168,7 @@ ends-append (x ∷ xs) ys h g =
     let n = neither (isJz (x .work)) (anyJz xs) h in
     rw (n .0) (ends-append xs ys (n .1) g)
 
-not-empty : (xs : List Template) (y : Template) (ys : List Template) → isEmpty (xs ++ y ∷ ys) ≡ false
+pub not-empty : (xs : List Template) (y : Template) (ys : List Template) → isEmpty (xs ++ y ∷ ys) ≡ false
 not-empty [] y ys = refl
 not-empty (x ∷ xs) y ys = refl
 

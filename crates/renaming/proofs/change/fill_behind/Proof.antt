@@ -13,13 +13,13 @@ add-fill-from c = search needs
 fill-from-requires : tie.Need-fill-from-requires
 fill-from-requires c κs = search needs
 
-refused-requires : tie.Need-refused-requires
-refused-requires c κs = search needs
+accepted-requires : tie.Need-accepted-requires
+accepted-requires c κs = search needs
 
 returns : tie.Need-returns
 returns c =
-    c .refused .ensures
+    c .accepted .ensures
     ∙ rw (c .before .fill-from .ensures) (ap (λ (q : State). answer q 0) (filled (c .before .before .before .args .s) (c .before .before .before .args .p) (c .before .before .before .args .x) (c .before .before .before .args .t) (c .before .before .before .args .v) (c .before .before .before .pre) (c .before .before .before .args .s .counter) (c .before .before .before .args .s .registers)))
 
 pub fill-behind-spec : {M : Type 1} → statement M
-fill-behind-spec = tie.close (tie.spec add-fill-from fill-from-requires refused-requires returns)
+fill-behind-spec = tie.close (tie.spec add-fill-from fill-from-requires accepted-requires returns)

@@ -12,13 +12,13 @@ use Rattle.renaming.proofs.change.fill_register.Tie as tie
 fill-registers-requires : tie.Need-fill-registers-requires
 fill-registers-requires c κs = search needs
 
-refused-requires : tie.Need-refused-requires
-refused-requires c κs = search needs
+accepted-requires : tie.Need-accepted-requires
+accepted-requires c κs = search needs
 
 returns : tie.Need-returns
 returns c =
-    c .refused .ensures
+    c .accepted .ensures
     ∙ rw (c .before .fill-registers .ensures) (ap (λ (q : State). answer q 0) (unchanged (c .before .before .before .args .s) (c .before .before .before .args .p) (c .before .before .before .args .x) (Done (c .before .before .before .args .t) (c .before .before .before .args .v)) (c .before .before .before .pre) (c .before .before .before .args .s .counter) (fillRegs (c .before .before .before .args .t) (c .before .before .before .args .v) (c .before .before .before .args .s .registers))))
 
 pub fill-register-spec : {M : Type 1} → statement M
-fill-register-spec = tie.close (tie.spec fill-registers-requires refused-requires returns)
+fill-register-spec = tie.close (tie.spec fill-registers-requires accepted-requires returns)

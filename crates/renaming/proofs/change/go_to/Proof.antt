@@ -14,13 +14,13 @@ without-requires c κs = search needs
 sub-t12 : tie.Need-sub-t12
 sub-t12 c = search needs
 
-refused-requires : tie.Need-refused-requires
-refused-requires c κs = search needs
+accepted-requires : tie.Need-accepted-requires
+accepted-requires c κs = search needs
 
 returns : tie.Need-returns
 returns c =
-    c .refused .ensures
+    c .accepted .ensures
     ∙ rw (c .before .without .ensures) (ap (λ (q : State). answer q 0) (taken-out (c .before .before .before .before .args .s) (c .before .before .before .before .args .p) (c .before .before .before .before .args .x) (c .before .before .before .before .args .was) (c .before .before .before .before .pre) (At (c .before .before .before .before .args .ia)) (c .before .before .before .before .args .s .registers)))
 
 pub go-to-spec : {M : Type 1} → statement M
-go-to-spec = tie.close (tie.spec without-requires sub-t12 refused-requires returns)
+go-to-spec = tie.close (tie.spec without-requires sub-t12 accepted-requires returns)

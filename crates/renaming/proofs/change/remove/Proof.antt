@@ -13,13 +13,13 @@ without-requires c κs = search needs
 sub-next : tie.Need-sub-next
 sub-next c = search needs
 
-refused-requires : tie.Need-refused-requires
-refused-requires c κs = search needs
+accepted-requires : tie.Need-accepted-requires
+accepted-requires c κs = search needs
 
 returns : tie.Need-returns
 returns c =
-    c .refused .ensures
+    c .accepted .ensures
     ∙ rw (c .before .without .ensures) (ap (λ (q : State). answer q 0) (taken-out (c .before .before .before .args .s) (c .before .before .before .args .p) (c .before .before .before .args .x) (c .before .before .before .args .was) (c .before .before .before .pre) (c .before .before .before .args .s .counter) (c .before .before .before .args .s .registers)))
 
 pub remove-spec : {M : Type 1} → statement M
-remove-spec = tie.close (tie.spec without-requires sub-next refused-requires returns)
+remove-spec = tie.close (tie.spec without-requires sub-next accepted-requires returns)

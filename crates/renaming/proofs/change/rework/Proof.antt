@@ -13,13 +13,13 @@ mul-t9 c = search needs
 element-set-from-next : tie.Need-element-set-from-next
 element-set-from-next c = search needs
 
-refused-requires : tie.Need-refused-requires
-refused-requires c κs = search needs
+accepted-requires : tie.Need-accepted-requires
+accepted-requires c κs = search needs
 
 returns : tie.Need-returns
 returns c =
-    c .refused .ensures
+    c .accepted .ensures
     ∙ ap (λ (q : State). answer q 0) (reworked (c .before .before .args .s) (c .before .before .args .p) (c .before .before .args .x) (c .before .before .args .was) (c .before .before .pre) (c .before .before .args .s .counter) (c .before .before .args .s .registers) (c .before .before .args .w))
 
 pub rework-spec : {M : Type 1} → statement M
-rework-spec = tie.close (tie.spec mul-t9 element-set-from-next refused-requires returns)
+rework-spec = tie.close (tie.spec mul-t9 element-set-from-next accepted-requires returns)

@@ -44,14 +44,14 @@ rename-requires c κs = search needs
 add-t16 : tie.Need-add-t16
 add-t16 c = search needs
 
-refused-requires-3 : tie.Need-refused-requires-3
-refused-requires-3 c κs = search needs
+accepted-requires : tie.Need-accepted-requires
+accepted-requires c κs = search needs
 
 returns-3 : tie.Need-returns-3
 returns-3 c =
     let good = sym (c .before .before .before .before .before .before .tag-ok .ensures) ∙ not-false (c .before .before .before .before .before .before .tag-ok .result) (c .before .before .before .before .before .if2 .left) in
     λ m.
-    c .refused3 .ensures
+    c .accepted .ensures
     ∙ rw (c .before .before .counter-after .ensures, c .before .rename .ensures, c .before .before .before .work-of .ensures)
     (ap (λ (q : State). answer q 0) (extended (c .before .before .before .before .before .before .before .before .before .args .s) (c .before .before .before .before .before .before .before .before .before .pre .0) (c .before .before .before .before .before .before .before .before .before .args .t) (c .before .before .before .before .before .before .before .before .before .args .ia) (c .before .before .before .before .before .before .before .before .before .args .i) m (c .before .before .before .before .before .before .before .before .if1 .left)))
     ∙ sym (ap (answerOf (c .before .before .before .before .before .before .before .before .before .args .s)) (issue-done (c .before .before .before .before .before .before .before .before .before .args .s) (c .before .before .before .before .before .before .before .before .before .pre .0) (c .before .before .before .before .before .before .before .before .before .args .t) (c .before .before .before .before .before .before .before .before .before .args .ia) (c .before .before .before .before .before .before .before .before .before .args .i) m (c .before .before .before .before .before .before .before .before .if1 .left) good))
@@ -71,5 +71,5 @@ issue-at-spec =
     counter-after-requires
     rename-requires
     add-t16
-    refused-requires-3
+    accepted-requires
     returns-3)

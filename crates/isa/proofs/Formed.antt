@@ -1,30 +1,24 @@
 -- A program whose instructions are all well formed, as are those of any records.
-use Prim.Native.Nat.{ℕ, zero, suc, _<_}
-use native.Mathlib.Omega.{arith}
+use Prim.Native.Nat.{ℕ, zero, suc}
 use mathlib.Core.Path.{_≡_, refl, ap, _∙_}
 use mathlib.Core.Bool.{true}
 use mathlib.Core.List.{List, [], _∷_}
 use mathlib.Core.Option.{some}
-use lib.ListN.{length, getElem?}
+use lib.ListN.{getElem?}
 use Rattle.records.specs.declared.Record.{Record}
 use Rattle.records.specs.Try.{Try, got, fails}
 use Rattle.records.specs.Records.{records}
 use Rattle.records.proofs.Basics.{same-some, some-not-none}
 use Rattle.isa.specs.declared.Instr.{Instr}
 use Rattle.isa.specs.Instruction.{isFormed, parse}
 use Rattle.isa.specs.Program.{leads, instructions, program}
 use Rattle.isa.proofs.RoundTrip.{record-parsed}
 
 abbrev pub AllFormed : List Instr → Type 0
 AllFormed [] = Unit
 AllFormed (i ∷ is) = (isFormed i ≡ true) × AllFormed is
 
--- an instruction that is there is inside the program, and well formed
-pub found-inside : {A : Type 0} (xs : List A) (n : ℕ) {x : A} → getElem? xs n ≡ some x → n < length xs
-found-inside [] n e = some-not-none e refl
-found-inside (y ∷ xs) zero e = omega arith
-found-inside (y ∷ xs) (suc n) e = omega (arith, found-inside xs n e)
-
+-- so is one that is there
 pub found-formed : (prog : List Instr) (n : ℕ) {i : Instr} → AllFormed prog → getElem? prog n ≡ some i → isFormed i ≡ true
 found-formed [] n f e = some-not-none e refl
 found-formed (j ∷ prog) zero f e = ap isFormed (same-some e refl) ∙ f .0
