@@ -1,5 +1,5 @@
 -- An entry does its work on a program and a memory that the checks accept, and otherwise hands back what it was lent.
-use mathlib.Core.Path.{_≡_, refl, sym, ap, _∙_}
+use mathlib.Core.Path.{_≡_, sym, ap, _∙_}
 use mathlib.Core.Logic.{_≢_}
 use Prim.Native.Nat.{ℕ, _<_}
 use mathlib.Core.List.{List}

@@ -1,7 +1,6 @@
 -- A stop has a number for no, and changes nothing.
-use mathlib.Core.Path.{_≡_, refl, sym, ap, _∙_}
+use mathlib.Core.Path.{_≡_, refl}
 use mathlib.Core.Logic.{_≢_}
-use Prim.Native.Nat.{ℕ}
 use mathlib.Core.List.{List}
 use lib.ListN.{getElem?}
 use Rattle.records.specs.Try.{Try, got, fails}
@@ -14,7 +13,7 @@ use Rattle.kernel.specs.Kernel.{readAt, writeAt, branch, Run, going, stopped, a
 use Rattle.kernel.proofs.Numbers.{Fails, branch-fails, read-fails, write-fails, present-fails}
 use Rattle.inorder.specs.declared.Register.{Register}
 use Rattle.inorder.specs.declared.InOrder.{InOrder}
-use Rattle.inorder.specs.Machine.{held, perform, step, once, after, memory}
+use Rattle.inorder.specs.Machine.{held, perform, step, once}
 
 -- a run that stopped, at address a with memory m, has a number
 abbrev pub Stops : {E : Type 0} → InstrAddr → List Value → Run E → Type 0

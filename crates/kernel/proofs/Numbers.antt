@@ -1,6 +1,5 @@
 -- No refusal of what was tried has the number 0.
 use mathlib.Core.Logic.{_≢_}
-use Prim.Native.Nat.{ℕ}
 use native.Mathlib.Omega.{arith}
 use mathlib.Core.Bool.{Bool, true, false, cond}
 use mathlib.Core.List.{List}

@@ -4,14 +4,12 @@ use Prim.Native.Nat.{ℕ, zero, suc, _+_, _*_, _/_, _%_, _^_, _<_, _≤_}
 use native.Mathlib.Omega.{arith}
 use native.Mathlib.Numerals.{towards-suc}
 use mathlib.Core.List.{List, [], _∷_, _++_}
-use lib.ListN.{length, getD, take, drop, set, length-append, length-drop}
-use lib.Seq.{sets, drop-cons, drop-drop, drop-length}
-use borrow.Author.Tests.{lt-ltb}
+use lib.ListN.{length, getD, drop, set, length-append}
+use lib.Seq.{sets, drop-cons, drop-length}
 use Rattle.records.specs.declared.Record.{Record}
-use Rattle.records.specs.Records.{wordAt, recordFrom, tabulate, records, bytes, image, replaced}
+use Rattle.records.specs.Records.{recordFrom, tabulate, records, bytes, image}
 use Rattle.records.proofs.Tabulate.{tabulate-same}
-use Rattle.records.proofs.Bytes.{spelt, record-of-bytes, eight, bytes-of-record}
-use Rattle.records.proofs.Replaced.{replaced-at}
+use Rattle.records.proofs.Bytes.{spelt, eight, bytes-of-record}
 
 pub length-image : (rs : List Record) → length (image rs) ≡ 8 * length rs
 length-image [] = refl

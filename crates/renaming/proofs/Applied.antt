@@ -1,6 +1,6 @@
 -- The rule at a place is the rule at the template that stands there; and which rules leave memory.
-use mathlib.Core.Path.{_≡_, refl, sym, ap, _∙_}
-use Prim.Native.Nat.{ℕ, _≤_, _<_}
+use mathlib.Core.Path.{_≡_, refl, sym}
+use Prim.Native.Nat.{ℕ, _≤_}
 use native.Mathlib.Omega.{arith}
 use mathlib.Core.Bool.{Bool, true, false, cond, _||_}
 use mathlib.Core.List.{List}
@@ -16,7 +16,7 @@ use Rattle.isa.specs.declared.Tag.{Tag}
 use Rattle.isa.specs.declared.Instr.{Instr}
 use Rattle.isa.specs.Program.{present}
 use Rattle.cells.specs.Cells.{cells}
-use Rattle.kernel.specs.Kernel.{next, readAt, target}
+use Rattle.kernel.specs.Kernel.{readAt, target}
 use Rattle.templates.specs.declared.Operand.{Operand}
 use Rattle.templates.specs.declared.Operand.the-variants.{Known, Waits}
 use Rattle.templates.specs.declared.Work.{Work}
@@ -31,7 +31,7 @@ use Rattle.templates.proofs.Places.{held-length}
 use Rattle.renaming.specs.declared.Rule.{Rule}
 use Rattle.renaming.specs.declared.Rule.the-variants as Rule
 use Rattle.renaming.specs.declared.Answer.{Answer}
-use Rattle.renaming.specs.Rules.{Step, accepted, refused, tried, known, condition, rule, becomes, goTo, apply, tagOk, issueAt, issueFrom, issue}
+use Rattle.renaming.specs.Rules.{Step, refused, tried, known, condition, rule, becomes, goTo, apply, tagOk, issueAt, issueFrom, issue}
 use Rattle.renaming.specs.Answers.{answerOf, memoryOf, Stands, at, Acts}
 use Rattle.renaming.proofs.Changes.{standing}
 

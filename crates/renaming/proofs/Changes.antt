@@ -1,10 +1,10 @@
 -- A change of the table at a template's place is the machine's change.
 use mathlib.Core.Path.{_≡_, refl, sym, ap, ap₂, _∙_}
-use Prim.Native.Nat.{ℕ, suc, _+_, _-_, _<_, _≤_}
+use Prim.Native.Nat.{ℕ, _+_, _-_, _<_}
 use native.Mathlib.Numerals.{add-one}
 use native.Mathlib.Omega.{arith}
 use mathlib.Core.List.{List, _∷_, _++_}
-use lib.ListN.{length, getD, set, take, drop}
+use lib.ListN.{length, getD, set, take}
 use lib.Seq.{split-at, take-suc, take-take, getD-take, append-snoc, set-split}
 use Rattle.value.specs.declared.Value.{Value}
 use Rattle.isa.specs.declared.Tag.{Tag}

@@ -1,7 +1,7 @@
 -- The entries: a refused one hands back what it was lent, and the loop of a run is the run.
-use mathlib.Core.Path.{_≡_, refl, sym, ap, ap₂, _∙_}
+use mathlib.Core.Path.{_≡_, refl, sym, ap, _∙_}
 use mathlib.Core.Logic.{_≢_}
-use Prim.Native.Nat.{ℕ, zero, suc, _+_, _*_, _-_, _/_, _%_, _<_, _≤_}
+use Prim.Native.Nat.{ℕ, suc, _+_, _*_, _-_, _/_, _%_, _<_, _≤_}
 use native.Mathlib.Numerals.{add-one}
 use native.Mathlib.Omega.{arith}
 use mathlib.Core.List.{List, [], _∷_}
@@ -9,7 +9,6 @@ use lib.ListN.{length, getD, drop, drop-of-length-le}
 use borrow.Author.Tests.{eq-eqb, ne-eqb}
 use Rattle.records.specs.declared.Verdict.{Verdict}
 use Rattle.records.specs.Scan.{verdict, accepted}
-use Rattle.records.specs.Records.{tabulate}
 use Rattle.records.proofs.Tabulate.{length-tabulate, tabulate-at}
 use Rattle.records.proofs.Leading.{drop-some}
 use Rattle.isa.specs.Program.{program}
@@ -17,18 +16,16 @@ use Rattle.isa.specs.Program as Program
 use Rattle.cells.specs.Cells.{cells, image, Formed}
 use Rattle.kernel.proofs.Checking.{refuses, works}
 use Rattle.templates.specs.declared.State.{State}
-use Rattle.templates.specs.Layout.{machOf, stateOf, Laid}
+use Rattle.templates.specs.Layout.{machOf}
 use Rattle.templates.proofs.Places.{stateOf-machOf}
 use Rattle.renaming.specs.declared.Command.{Command}
 use Rattle.renaming.specs.declared.Command.the-variants.{Malformed, Issue, Apply}
 use Rattle.renaming.specs.declared.Answer.{Answer}
-use Rattle.renaming.specs.declared.Stepped.{Stepped}
 use Rattle.renaming.specs.declared.Ran.{Ran}
-use Rattle.renaming.specs.Rules as Rules
 use Rattle.renaming.specs.Schedule.{commandOf, obey}
-use Rattle.renaming.specs.Run.{End, commands, counted, proceed, runFrom, run}
+use Rattle.renaming.specs.Run.{End, commands, counted, proceed, runFrom}
 use Rattle.renaming.specs.Answers.{Fit, Acts, Obeys}
-use Rattle.renaming.specs.Entries.{entered, enteredWith, command, once, stepAnswer, stepped, steppedMemory, Steps, enteredRun, runs, ended, ran, ranMemory, Runs, Goes}
+use Rattle.renaming.specs.Entries.{entered, enteredWith, once, stepAnswer, stepped, steppedMemory, Steps, enteredRun, runs, ended, ran, ranMemory, Runs, Goes}
 use Rattle.renaming.proofs.Fitting.{acts-refused, obeyed, still-fit}
 
 -- ---- step

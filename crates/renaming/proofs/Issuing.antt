@@ -1,10 +1,9 @@
 -- Issue at the counter: what each test leaves.
-use mathlib.Core.Path.{_≡_, refl, sym, ap, _∙_}
-use Prim.Native.Nat.{ℕ, _+_, _≤_, _<_}
+use mathlib.Core.Path.{_≡_, refl, ap, _∙_}
+use Prim.Native.Nat.{_+_, _≤_, _<_}
 use native.Mathlib.Omega.{arith}
 use mathlib.Core.Bool.{true, false}
 use mathlib.Core.List.{List}
-use lib.Dec.{leb}
 use lib.ListN.{length, set, getElem?}
 use borrow.Author.Tests.{le-leb, lt-leb}
 use Rattle.records.specs.Refusal.{stalled, full, badTag}

@@ -10,9 +10,8 @@ use Rattle.records.specs.Refusal.{noTemplate}
 use Rattle.value.specs.declared.Value.{Value}
 use Rattle.cells.specs.Cells.{cells, Formed}
 use Rattle.templates.specs.declared.State.{State}
-use Rattle.templates.specs.Layout.{Mach, machOf}
+use Rattle.templates.specs.Layout.{machOf}
 use Rattle.renaming.specs.declared.Rule.{Rule}
-use Rattle.renaming.specs.declared.Rule.the-variants as Rule
 use Rattle.renaming.specs.declared.Answer.{Answer}
 use Rattle.renaming.specs.Rules.{Step, accepted, refused, apply}
 use Rattle.renaming.specs.Answers.{answer, answerOf, memoryOf, Acts}

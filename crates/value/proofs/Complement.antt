@@ -1,15 +1,15 @@
 -- Two's complement at 32 bits: what a word and a signed number say of each other, and which quotients fit.
 use mathlib.Core.Path.{_≡_, refl, sym, ap, ap₂, subst, _∙_}
-use Prim.Native.Nat.{ℕ, zero, suc, _+_, _-_, _*_, _/_, _^_, _<_, _≤_}
-use native.Mathlib.Nat.{div-le-self, div-one, div-lt-iff-lt-mul, lt-of-le-of-lt, le-trans}
+use Prim.Native.Nat.{ℕ, zero, suc, _-_, _/_, _^_, _<_, _≤_}
+use native.Mathlib.Nat.{div-le-self, div-one, div-lt-iff-lt-mul}
 use native.Mathlib.Omega.{arith}
-use mathlib.Core.Bool.{Bool, true, false}
+use mathlib.Core.Bool.{true, false}
 use lib.IntN.{ℤ, pos, negsuc, negℤ, natAbs}
-use lib.Signed.{mag, ltZ, leZ, nonNeg, quotZ}
+use lib.Signed.{mag, leZ, nonNeg, quotZ}
 use lib.Dec.{T, leb·zero}
 use mir.Syntax.{w32}
 use mir.Val.{Fits, SFits, toZ, ofZ}
-use mir.Facts.{toZ-inj, fits-lit, toZ-ofZ, ofZ-toZ, toZ-pos, toZ-neg, sfits-toZ}
+use mir.Facts.{toZ-inj, fits-lit, toZ-ofZ, ofZ-toZ, toZ-pos, sfits-toZ}
 
 -- a word below 2^31 is its own number
 pub small : {n : ℕ} → n < 2 ^ 31 → T (nonNeg (toZ w32 n)) × Fits w32 (natAbs (toZ w32 n))

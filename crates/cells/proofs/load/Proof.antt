@@ -1,5 +1,5 @@
 -- `cells::load` meets its contract.
-use mathlib.Core.Path.{refl, sym, ap, _∙_}
+use mathlib.Core.Path.{refl, ap}
 use Rattle.records.proofs.Leading.{read-is, read-nothing}
 use Rattle.cells.specs.declared.Loaded.the-variants.{Is}
 use Rattle.cells.specs.Cells.{loadFrom}

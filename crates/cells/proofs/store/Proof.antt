@@ -1,6 +1,6 @@
 -- `cells::store` meets its contract.
 use mathlib.Core.Path.{refl, sym, ap, subst, _∙_}
-use Prim.Native.Nat.{ℕ, _^_, _<_}
+use Prim.Native.Nat.{_^_, _<_}
 use borrow.Author.Tests.{lt-ltb, le-ltb}
 use lib.Seq.{set-out}
 use Rattle.records.specs.declared.Record.{Record}

@@ -1,8 +1,7 @@
 -- `isa::fetch` meets its contract.
-use mathlib.Core.Path.{refl, sym, ap, _∙_}
+use mathlib.Core.Path.{refl, _∙_}
 use Rattle.records.proofs.Leading.{read-is, read-nothing}
-use Rattle.isa.specs.Instruction.{answer}
-use Rattle.isa.specs.Program.{parsed, fetched}
+use Rattle.isa.specs.Program.{fetched}
 use borrow.Author.Needs.{needs}
 use Rattle.isa.proofs.fetch.Statement.{statement}
 use Rattle.isa.proofs.fetch.Tie as tie

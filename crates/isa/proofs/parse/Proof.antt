@@ -1,8 +1,8 @@
 -- `isa::parse` meets its contract.
-use mathlib.Core.Path.{_≡_, refl, sym, ap, _∙_}
+use mathlib.Core.Path.{refl}
 use mathlib.Core.Bool.{and-false}
 use borrow.Author.Tests.{ne-eqb, lt-leb}
-use Rattle.isa.specs.Instruction.{parse, answer}
+use Rattle.isa.specs.Instruction.{parse}
 use borrow.Author.Needs.{needs}
 use Rattle.isa.proofs.parse.Statement.{statement}
 use Rattle.isa.proofs.parse.Tie as tie

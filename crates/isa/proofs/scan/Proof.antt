@@ -1,5 +1,5 @@
 -- `isa::scan` meets its contract.
-use mathlib.Core.Path.{_≡_, refl, sym, ap, _∙_}
+use mathlib.Core.Path.{refl, sym, _∙_}
 use borrow.Author.Tests.{not-true, not-false}
 use Rattle.isa.specs.Program.{scanOf}
 use borrow.Author.Needs.{needs}

@@ -1,5 +1,5 @@
 -- `isa::write` meets its contract.
-use mathlib.Core.Path.{_≡_, refl, sym, ap, _∙_}
+use mathlib.Core.Path.{refl, sym, ap, _∙_}
 use Prim.Native.Nat.{_/_, _<_}
 use lib.ListN.{length}
 use lib.Seq.{sets-eq}

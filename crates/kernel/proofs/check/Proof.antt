@@ -1,12 +1,11 @@
 -- `kernel::check` meets its contract.
-use mathlib.Core.Path.{refl, sym, ap, ap₂, _∙_}
+use mathlib.Core.Path.{refl}
 use mathlib.Core.Bool.{_&&_}
 use borrow.Author.Tests.{eq-eqb, ne-eqb, not-true, not-false}
 use Rattle.kernel.specs.Checks.{checked}
 use borrow.Author.Needs.{needs}
 use Rattle.kernel.proofs.check.Statement.{statement}
 use Rattle.kernel.proofs.check.Tie as tie
-use Rattle.isa.proofs.scan.Reads as scan-reads′
 
 is-whole-requires : tie.Need-is-whole-requires
 is-whole-requires c κs = search needs

@@ -1,5 +1,5 @@
 -- `kernel::write_at` meets its contract.
-use mathlib.Core.Path.{refl, sym, ap, _∙_}
+use mathlib.Core.Path.{refl, _∙_}
 use Rattle.kernel.proofs.Writing.{store-number, store-kept}
 use borrow.Author.Needs.{needs}
 use Rattle.kernel.proofs.write_at.Statement.{statement}

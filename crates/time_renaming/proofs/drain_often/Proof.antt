@@ -1,9 +1,7 @@
 -- `time_renaming::drain_often` meets its contract.
-use mathlib.Core.Path.{_≡_}
 use Prim.Native.Nat.{_≤_, _-_}
 use native.Mathlib.Omega.{arith}
 use borrow.Author.Needs.{needs}
-use lib.ListN.{length}
 use Rattle.time_renaming.proofs.drain_often.Statement.{statement}
 use Rattle.time_renaming.proofs.drain_often.Tie as tie
 

@@ -3,7 +3,7 @@ use mathlib.Core.Path.{_≡_, refl, ap, sym, _∙_}
 use Prim.Native.Nat.{ℕ}
 use borrow.Author.Tests.{ne-eqb}
 use Rattle.value.specs.declared.Value.{Value}
-use Rattle.value.specs.declared.Value.the-variants.{Undefined, Word}
+use Rattle.value.specs.declared.Value.the-variants.{Word}
 use Rattle.value.specs.Operation.{result, onWords}
 use borrow.Author.Needs.{needs}
 use Rattle.value.proofs.operate.Statement.{statement}

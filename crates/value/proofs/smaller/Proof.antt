@@ -1,5 +1,5 @@
 -- `value::smaller` meets its contract.
-use mathlib.Core.Path.{_≡_, sym, ap, _∙_}
+use mathlib.Core.Path.{sym, ap, _∙_}
 use mathlib.Core.Bool.{Bool, cond}
 use lib.Signed.{ltZ}
 use Rattle.value.proofs.Complement.{read₂}

@@ -1,5 +1,5 @@
 -- `inorder::InOrder::advance` meets its contract.
-use mathlib.Core.Path.{_≡_, refl, sym, _∙_}
+use mathlib.Core.Path.{refl, sym, _∙_}
 use Rattle.isa.specs.Program.{fetched}
 use Rattle.isa.proofs.Answers.{reading-is, reading-no}
 use Rattle.isa.proofs.Programs.{fetched-program, fetched-inside}

@@ -1,13 +1,7 @@
 -- `inorder::InOrder::go` meets its contract.
-use mathlib.Core.Path.{_≡_, refl, sym, ap, _∙_}
-use Prim.Native.Nat.{ℕ, suc, _+_, _-_, _≤_}
+use mathlib.Core.Path.{_∙_}
+use Prim.Native.Nat.{_-_}
 use native.Mathlib.Omega.{arith}
-use native.Mathlib.Numerals.{add-one}
-use borrow.Author.Needs.{needs}
-use lib.ListN.{length}
-use Rattle.isa.specs.Program.{program as instructionsOf}
-use Rattle.cells.specs.Cells.{cells, Formed}
-use Rattle.inorder.specs.Entries.{End, runFrom, ended}
 use Rattle.inorder.proofs.Running.{Left, run-begins, run-again, run-stops, run-ends}
 use Rattle.inorder.proofs.InOrder.go.Statement.{statement}
 use Rattle.inorder.proofs.InOrder.go.Tie as tie

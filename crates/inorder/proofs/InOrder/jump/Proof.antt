@@ -1,5 +1,4 @@
 -- `inorder::InOrder::jump` meets its contract.
-use mathlib.Core.Path.{refl, sym, ap, _∙_}
 use borrow.Author.Tests.{eq-eqb, ne-eqb}
 use Rattle.kernel.specs.Kernel.{target}
 use Rattle.kernel.proofs.Answers.{target-is, target-no}

@@ -1,5 +1,5 @@
 -- `inorder::InOrder::load` meets its contract.
-use mathlib.Core.Path.{refl, sym, ap, _∙_}
+use mathlib.Core.Path.{refl}
 use Rattle.cells.specs.Cells.{cells}
 use Rattle.kernel.specs.Kernel.{readAt}
 use Rattle.kernel.proofs.Answers.{loaded-is, loaded-no}

@@ -1,8 +1,4 @@
 -- `inorder::InOrder::store` meets its contract.
-use mathlib.Core.Path.{refl, sym, ap, _∙_}
-use Rattle.cells.specs.Cells.{cells}
-use Rattle.kernel.specs.Kernel.{writeAt}
-use Rattle.kernel.proofs.Writing.{write-formed}
 use Rattle.inorder.proofs.Storing.{store-stops, store-goes}
 use borrow.Author.Needs.{needs}
 use Rattle.inorder.proofs.InOrder.store.Statement.{statement}

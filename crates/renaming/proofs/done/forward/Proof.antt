@@ -1,5 +1,4 @@
 -- `renaming::done::forward` meets its contract.
-use mathlib.Core.Path.{refl, _∙_}
 use native.Mathlib.Numerals.{add-one}
 use borrow.Author.Needs.{needs}
 use Rattle.renaming.proofs.done.forward.Statement.{statement}

@@ -1,5 +1,5 @@
 -- `renaming::draining::blocked_by` meets its contract.
-use mathlib.Core.Path.{refl, sym, _∙_}
+use mathlib.Core.Path.{refl, _∙_}
 use native.Mathlib.Nat.{pos-of-ne-zero}
 use lib.ListN.{getD}
 use Rattle.cells.specs.Cells.{cells}

@@ -2,7 +2,6 @@
 use Prim.Native.Nat.{_-_}
 use native.Mathlib.Omega.{arith}
 use mathlib.Core.Path.{_∙_}
-use borrow.Author.Needs.{needs}
 use Rattle.renaming.proofs.Fitting.{fit-within}
 use Rattle.renaming.proofs.Emptying.{Left, drain-begins, drain-again, drain-stops, drain-spent}
 use Rattle.renaming.proofs.draining.empty.Statement.{statement}

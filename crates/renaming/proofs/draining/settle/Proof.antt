@@ -1,5 +1,5 @@
 -- `renaming::draining::settle` meets its contract.
-use mathlib.Core.Path.{_≡_, refl, sym, ap, _∙_}
+use mathlib.Core.Path.{refl}
 use Rattle.templates.proofs.Places.{stateOf-machOf}
 use borrow.Author.Needs.{needs}
 use Rattle.renaming.proofs.draining.settle.Statement.{statement}

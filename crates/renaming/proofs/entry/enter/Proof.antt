@@ -1,7 +1,6 @@
 -- `renaming::entry::enter` meets its contract.
-use mathlib.Core.Path.{_≡_, refl, sym, ap, _∙_}
+use mathlib.Core.Path.{refl}
 use native.Mathlib.Omega.{arith}
-use mathlib.Core.Bool.{true, false}
 use borrow.Author.Tests.{eq-eqb, ne-eqb, not-true, not-false}
 use Rattle.isa.proofs.Programs.{program-whole}
 use Rattle.kernel.proofs.Checking.{checked-program}

@@ -1,5 +1,5 @@
 -- `renaming::entry::step` meets its contract.
-use mathlib.Core.Path.{_≡_, sym, subst, _∙_}
+use mathlib.Core.Path.{sym, subst, _∙_}
 use native.Mathlib.Omega.{arith}
 use Rattle.renaming.specs.declared.Command.{Command}
 use Rattle.renaming.specs.Answers.{Obeys}

@@ -1,5 +1,5 @@
 -- `renaming::issue::issue` meets its contract.
-use mathlib.Core.Path.{_≡_, sym, ap, _∙_}
+use mathlib.Core.Path.{sym, ap, _∙_}
 use Rattle.isa.specs.Program.{program as instructionsOf, fetched}
 use Rattle.isa.proofs.Answers.{reading-is, reading-no}
 use Rattle.isa.proofs.Programs.{fetched-program, fetched-inside}

@@ -1,5 +1,5 @@
 -- `renaming::memory::load` meets its contract.
-use mathlib.Core.Path.{ap, sym, _∙_}
+use mathlib.Core.Path.{ap, _∙_}
 use Rattle.cells.specs.Cells.{cells}
 use Rattle.kernel.specs.Kernel.{readAt}
 use Rattle.kernel.proofs.Answers.{loaded-is, loaded-no}

@@ -1,6 +1,4 @@
 -- `renaming::running::count` meets its contract.
-use mathlib.Core.Path.{sym, ap}
-use Rattle.renaming.specs.Run.{counted}
 use borrow.Author.Needs.{needs}
 use Rattle.renaming.proofs.running.count.Statement.{statement}
 use Rattle.renaming.proofs.running.count.Tie as tie

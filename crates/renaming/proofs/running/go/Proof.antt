@@ -1,8 +1,7 @@
 -- `renaming::running::go` meets its contract.
-use mathlib.Core.Path.{_≡_, refl, sym, ap, subst, _∙_}
-use Prim.Native.Nat.{ℕ, _+_, _-_, _/_}
+use mathlib.Core.Path.{sym, subst, _∙_}
+use Prim.Native.Nat.{ℕ, _+_, _-_}
 use native.Mathlib.Omega.{arith}
-use lib.ListN.{length}
 use borrow.Author.Needs.{needs}
 use Rattle.renaming.proofs.Fitting.{fit-within}
 use Rattle.renaming.proofs.Going.{Left, run-begins, run-again, run-stops, run-ends}

@@ -1,5 +1,5 @@
 -- `renaming::running::run` meets its contract.
-use mathlib.Core.Path.{_≡_, sym, _∙_}
+use mathlib.Core.Path.{sym, _∙_}
 use native.Mathlib.Omega.{arith}
 use Rattle.renaming.proofs.Fitting.{entered-program, entered-memory, entered-fit}
 use Rattle.renaming.proofs.Going.{schedule-length, schedule-whole, run-refused, run-done}

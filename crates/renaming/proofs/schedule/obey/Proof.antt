@@ -1,5 +1,5 @@
 -- `renaming::schedule::obey` meets its contract.
-use mathlib.Core.Path.{refl, sym, ap, _∙_}
+use mathlib.Core.Path.{refl}
 use Rattle.isa.specs.Program.{program as instructionsOf}
 use Rattle.cells.specs.Cells.{cells}
 use Rattle.templates.specs.Layout.{machOf}

@@ -1,6 +1,5 @@
 -- `renaming::waiting::operate` meets its contract.
-use mathlib.Core.Path.{ap, ap₂}
-use Rattle.templates.specs.declared.Operand.{Operand}
+use mathlib.Core.Path.{ap₂}
 use Rattle.templates.specs.declared.Work.the-variants.{Op}
 use Rattle.renaming.proofs.Told.{stands-as}
 use borrow.Author.Needs.{needs}
