@@ -3,7 +3,7 @@ use Prim.Native.Nat.{ℕ, zero, suc, _+_, _*_, _/_, _%_, _<_, _≤_}
 use native.Mathlib.Omega.{arith}
 use mathlib.Core.Path.{_≡_, refl, sym, ap, subst, _∙_}
 use mathlib.Core.Logic.{_≢_}
-use mathlib.Core.Bool.{Bool, true, false, cond}
+use mathlib.Core.Bool.{Bool, true, false, cond, _&&_}
 use mathlib.Core.List.{List, _∷_, _++_}
 use lib.Dec.{eqb, ltb}
 use lib.ListN.{length, take, drop}
@@ -11,7 +11,7 @@ use lib.Seq.{getD-take, length-take-le}
 use borrow.Author.Tests.{eqb-true, ltb-false}
 use Rattle.records.specs.declared.Verdict.{Verdict}
 use Rattle.records.specs.Refusal.{badLength, badInstruction, unsound, outside}
-use Rattle.records.specs.Records.{tabulate, bytes, replaced}
+use Rattle.records.specs.Records.{tabulate, bytes, replaced, isWhole}
 use Rattle.records.specs.Scan.{verdict, accepted}
 use Rattle.records.proofs.Tabulate.{length-tabulate, tabulate-same}
 use Rattle.records.proofs.Replaced.{replaced-past}
@@ -46,6 +46,9 @@ use Rattle.renaming.specs.Answers.{answerOf, memoryOf}
 use Rattle.renaming.specs.Entries.{entered, enteredWith, once, stepAnswer, stepped, steppedMemory, enteredRun, runs, ended, ran, ranMemory, Runs}
 use Rattle.renaming.proofs.Going.{run-refused, schedule-whole, commandAt}
 use Rattle.renaming.proofs.Emptying.{drain-refused}
+use Rattle.report.specs.declared.Reported.{Reported}
+use Rattle.report.specs.Lines.{contentsText}
+use Rattle.report.specs.Report as Report
 use Rattle.demands.specs.Demand1.{AreBytes, Demand1}
 use Rattle.demands.proofs.Accepted.{run-accepts, allowed-accepted}
 
@@ -211,6 +214,12 @@ store-unchanged b a v = by-place (ltb (a .0) (length b / 8)) refl
     by-place true e h = absurd (h refl)
     by-place false e h = replaced-past b (a .0) (recordOf v) (ltb-false (a .0) (length b / 8) e)
 
+-- a text whose output is too short
+writes-refused : (good : Bool) (text out : List ℕ) {r : Reported} {out′ : List ℕ} → Report.Writes good text out r out′ → r .refusal ≢ 0
+    → (good ≡ false) × (out′ ≡ out) × (r .written ≡ 0)
+writes-refused true text out w h = absurd (h (ap (λ (x : Reported). x .refusal) (w .answer)))
+writes-refused false text out w h = (refl, w .output, ap (λ (x : Reported). x .written) (w .answer))
+
 -- ---- demand 1
 
 pub demand-1 : Demand1
@@ -251,4 +260,10 @@ demand-1 =
           let same = list-unchanged p out (λ e. h (ap (λ (x : Listed). x .refusal) (g .answer) ∙ e)) in
           (g .output ∙ same .0, ap (λ (x : Listed). x .written) (g .answer) ∙ same .1);
       store = λ b a v r b′ g h. g .bytes ∙ store-unchanged b a v (λ e. h (g .answer ∙ e));
+      report = λ p b s out r b′ out′ g h.
+          let no = writes-refused (Report.hasRoom out) (Report.report p b s) out (g .writes) h in
+          (g .memory ∙ ap (λ (t : Bool). cond (t && Report.isFit p b s) (Report.afterDrain p b s) b) (no .0), no .1, no .2);
+      contents = λ s b out r out′ g h.
+          let no = writes-refused (isWhole b && Report.hasRoom out) (contentsText s (cells b)) out g h in
+          (no .1, no .2);
     }

@@ -2,7 +2,7 @@
 use Prim.Native.Nat.{ℕ}
 use mathlib.Core.Path.{_≡_, sym, _∙_}
 use mathlib.Core.List.{List}
-use Rattle.demands.specs.OneAnswer.{OneAnswer, OneAnswerAndBuffer, OneAnswers}
+use Rattle.demands.specs.OneAnswer.{OneAnswer, OneAnswerAndBuffer, OneAnswerAndBuffers, OneAnswers}
 
 pub one-answer : {A : Type 0} (d : A) → OneAnswer (λ (r : A). r ≡ d)
 one-answer d r r′ e f = e ∙ sym f
@@ -13,6 +13,15 @@ one-pair P {d} {c} says r r′ b b′ e f =
     let g = says r b e in
     let h = says r′ b′ f in
     (one-answer d r r′ (g .0) (h .0), one-answer c b b′ (g .1) (h .1))
+
+-- the promise says what the answer and both buffers are
+pub one-triple : {A : Type 0} (P : A → List ℕ → List ℕ → Type 0) {d : A} {b₀ c₀ : List ℕ}
+    → ((r : A) (b c : List ℕ) → P r b c → (r ≡ d) × (b ≡ b₀) × (c ≡ c₀))
+    → OneAnswerAndBuffers P
+one-triple P {d} {b₀} {c₀} says r r′ b b′ c c′ e f =
+    let g = says r b c e in
+    let h = says r′ b′ c′ f in
+    (one-answer d r r′ (g .0) (h .0), one-answer b₀ b b′ (g .1) (h .1), one-answer c₀ c c′ (g .2) (h .2))
 
 pub one-answers : OneAnswers
 one-answers =
@@ -28,6 +37,8 @@ one-answers =
       putText = λ b at t. one-pair _ (λ r b′ e. (e .next, e .holds));
       putDecimal = λ b at n. one-pair _ (λ r b′ e. (e .next, e .holds));
       writeAt = λ b a v. one-pair _ (λ r b′ e. (e .answer, e .bytes));
+      shows = λ s b out. one-pair _ (λ r out′ e. (e .answer, e .output));
+      report = λ p b s out. one-triple _ (λ r b′ out′ e. (e .writes .answer, e .memory, e .writes .output));
       readRecord = λ b number. one-answer _;
       writeRecord = λ b number r. one-answer _;
       isWhole = λ b. one-answer _;

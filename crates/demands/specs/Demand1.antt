@@ -21,6 +21,8 @@ use Rattle.renaming.specs.declared.Stepped.{Stepped}
 use Rattle.renaming.specs.declared.Ran.{Ran}
 use Rattle.renaming.specs.declared.Settled.{Settled}
 use Rattle.renaming.specs.Entries.{entered, enteredRun, Steps, Runs, Drains}
+use Rattle.report.specs.declared.Reported.{Reported}
+use Rattle.report.specs.Report.{Reports, Shows}
 
 -- every element of a lent buffer is a byte
 abbrev pub AreBytes : List ℕ → Type 0
@@ -52,3 +54,8 @@ pub record Demand1 : Type 0 where
   pub list : (p out : List ℕ) (r : Listed) (out′ : List ℕ) → Lists p out r out′ → r .refusal ≢ 0 → (out′ ≡ out) × (r .written ≡ 0)
   -- a cell outside memory
   pub store : (b : List ℕ) (a : DataAddr) (v : Value) (r : ℕ) (b′ : List ℕ) → Stores b a v r b′ → r ≢ 0 → b′ ≡ b
+  -- a report that isn't written: nothing was run
+  pub report : (p b s out : List ℕ) (r : Reported) (b′ out′ : List ℕ) → Reports p b s out r b′ out′ → r .refusal ≢ 0
+      → (b′ ≡ b) × (out′ ≡ out) × (r .written ≡ 0)
+  -- a machine's contents that aren't written
+  pub contents : (s : State) (b out : List ℕ) (r : Reported) (out′ : List ℕ) → Shows s b out r out′ → r .refusal ≢ 0 → (out′ ≡ out) × (r .written ≡ 0)

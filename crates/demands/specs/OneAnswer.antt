@@ -45,6 +45,8 @@ use Rattle.templates.specs.Layout.{stateOf, mapFrom, removed}
 use Rattle.templates.specs.Layout as Layout
 use Rattle.sound.specs.Sound as Sound
 use Rattle.renaming.specs.Entries.{Steps, Runs, Drains}
+use Rattle.report.specs.declared.Reported.{Reported}
+use Rattle.report.specs.Report.{Reports, Shows}
 
 -- of a promise about an answer
 abbrev pub OneAnswer : {A : Type 0} → (A → Type 0) → Type 0
@@ -54,7 +56,11 @@ OneAnswer {A} P = (r r′ : A) → P r → P r′ → r ≡ r′
 abbrev pub OneAnswerAndBuffer : {A : Type 0} → (A → List ℕ → Type 0) → Type 0
 OneAnswerAndBuffer {A} P = (r r′ : A) (b b′ : List ℕ) → P r b → P r′ b′ → (r ≡ r′) × (b ≡ b′)
 
--- a line for each public function: first those that write into a lent buffer and answer
+-- of a promise about an answer and two buffers
+abbrev pub OneAnswerAndBuffers : {A : Type 0} → (A → List ℕ → List ℕ → Type 0) → Type 0
+OneAnswerAndBuffers {A} P = (r r′ : A) (b b′ c c′ : List ℕ) → P r b c → P r′ b′ c′ → (r ≡ r′) × (b ≡ b′) × (c ≡ c′)
+
+-- a line for each public function that has a promise: first those that write into a lent buffer and answer
 pub record OneAnswers : Type 0 where
   pub step : (p : List ℕ) (s : State) (b one : List ℕ) → OneAnswerAndBuffer (Steps p s b one)
   pub run : (p : List ℕ) (s : State) (b records : List ℕ) → OneAnswerAndBuffer (Runs p s b records)
@@ -67,6 +73,8 @@ pub record OneAnswers : Type 0 where
   pub putText : (b : List ℕ) (at : ℕ) (t : List ℕ) → OneAnswerAndBuffer (Put b at t)
   pub putDecimal : (b : List ℕ) (at n : ℕ) → OneAnswerAndBuffer (Put b at (decimal n))
   pub writeAt : (b : List ℕ) (a v : Value) → OneAnswerAndBuffer (Writes b a v)
+  pub shows : (s : State) (b out : List ℕ) → OneAnswerAndBuffer (Shows s b out)
+  pub report : (p b s out : List ℕ) → OneAnswerAndBuffers (Reports p b s out)
   -- then those whose promise is one equation
   pub readRecord : (b : List ℕ) (number : ℕ) → OneAnswer (λ (r′ : Found). r′ ≡ found (getElem? (Records.records b) number))
   pub writeRecord : (b : List ℕ) (number : ℕ) (r : Record) → OneAnswer (λ (r′ : List ℕ). r′ ≡ Records.replaced b number r)

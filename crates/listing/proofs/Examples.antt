@@ -4,10 +4,10 @@ use mathlib.Core.List.{[], _∷_, _++_}
 use lib.ListN.{length}
 use Rattle.isa.specs.declared.Instr.the-variants.{Loadc, Loadpc, Op, Jz, Load, Store}
 use Rattle.isa.specs.Instruction.{reg}
-use Rattle.text.specs.Text.{ascii, decimal}
-use Rattle.listing.specs.Listing.{nameText, regText, pairText, bodyText, lineText, linesFrom, room}
+use Rattle.text.specs.Text.{ascii, decimal, numbered}
+use Rattle.listing.specs.Listing.{nameText, regText, pairText, bodyText, lineText, room}
 
-lines : linesFrom 0 (
+lines : numbered lineText 0 (
     Loadc (reg 1) 6 ∷
     Loadc (reg 2) 0 ∷
     Op (reg 3) 3 (reg 1) (reg 2) ∷
@@ -25,7 +25,7 @@ lines : linesFrom 0 (
     ++ (ascii "5: Jz(r1,r2)\n"
     ++ (ascii "6: r4 := Load(r1)\n"
     ++ ascii "7: r5 := Loadpc\n"))))))
-unfolding linesFrom lineText bodyText nameText pairText regText decimal
+unfolding numbered lineText bodyText nameText pairText regText decimal
 lines = refl
 
 largest : decimal 4294967295 ≡ ascii "4294967295"

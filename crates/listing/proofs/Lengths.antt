@@ -17,8 +17,9 @@ use Rattle.isa.specs.declared.Instr.the-variants.{Loadc, Loadpc, Op, Jz, Load, 
 use Rattle.isa.specs.Instruction.{registers, lastOperation, isReg, isFormed, recordOf, parse}
 use Rattle.isa.specs.Program.{leads, instructions, program}
 use Rattle.isa.proofs.RoundTrip.{record-parsed}
+use Rattle.text.specs.Text.{numbered}
 use Rattle.text.proofs.Decimal.{decimal-width}
-use Rattle.listing.specs.Listing.{nameText, regText, pairText, bodyText, lineText, linesFrom, listing, room}
+use Rattle.listing.specs.Listing.{nameText, regText, pairText, bodyText, lineText, listing, room}
 
 -- ---- a line
 either : (t : Bool) (x y : List ℕ) (n : ℕ) → length x ≤ n → length y ≤ n → length (cond t x y) ≤ n
@@ -62,8 +63,8 @@ line-short a i l f h = let d = decimal-width 4 a (omega arith) (omega arith) in 
 
 -- ---- the listing
 lead-short : (a : ℕ) (r : Record) (is : List Instr) (n : ℕ) (t : Try Instr)
-    → parse r ≡ t → a < 1024 → r .word < 2 ^ 32 → length (linesFrom (suc a) is) ≤ room * n → length (linesFrom a (leads t is)) ≤ room * suc n
-unfolding linesFrom
+    → parse r ≡ t → a < 1024 → r .word < 2 ^ 32 → length (numbered lineText (suc a) is) ≤ room * n → length (numbered lineText a (leads t is)) ≤ room * suc n
+unfolding numbered
 lead-short a r is n (got i) e l h rest =
     let p = record-parsed r i e in
     let word : recordOf i .word ≡ r .word = ap (λ (r : Record). r .word) (p .same) in
@@ -71,8 +72,8 @@ lead-short a r is n (got i) e l h rest =
     simp length-append (omega arith)
 lead-short a r is n (fails m) e l h rest = omega arith
 
-lines-short : (a n : ℕ) (f : ℕ → Record) → a + n ≤ 1024 → ((i : ℕ) → f i .word < 2 ^ 32) → length (linesFrom a (instructions (tabulate n f))) ≤ room * n
-unfolding linesFrom
+lines-short : (a n : ℕ) (f : ℕ → Record) → a + n ≤ 1024 → ((i : ℕ) → f i .word < 2 ^ 32) → length (numbered lineText a (instructions (tabulate n f))) ≤ room * n
+unfolding numbered
 lines-short a zero f l h = omega arith
 lines-short a (suc n) f l h =
     lead-short a (f 0) (instructions (tabulate n (λ i. f (suc i)))) n (parse (f 0)) refl (omega arith) (h 0)

@@ -1,6 +1,5 @@
 -- Laws that belong to no one function.
 pub mod Fetched
-pub mod Lines
 pub mod Lengths
 pub mod Checked
 pub mod Examples

@@ -1,8 +1,8 @@
 -- The text of a program: a line for each instruction, with its address.
 use mathlib.Core.Path.{_≡_}
-use Prim.Native.Nat.{ℕ, suc, _*_, _/_}
+use Prim.Native.Nat.{ℕ, _*_, _/_}
 use mathlib.Core.Bool.{cond}
-use mathlib.Core.List.{List, [], _∷_, _++_}
+use mathlib.Core.List.{List, _++_}
 use lib.Dec.{eqb, ltb}
 use lib.ListN.{length, drop}
 use Rattle.records.specs.declared.Verdict.{Verdict}
@@ -12,7 +12,7 @@ use Rattle.isa.specs.declared.Reg.{Reg}
 use Rattle.isa.specs.declared.Instr.{Instr}
 use Rattle.isa.specs.declared.Instr.the-variants.{Loadc, Loadpc, Op, Jz, Load, Store}
 use Rattle.isa.specs.Program.{program, scanOf}
-use Rattle.text.specs.Text.{ascii, decimal}
+use Rattle.text.specs.Text.{ascii, decimal, numbered}
 use Rattle.listing.specs.declared.Listed.{Listed}
 
 -- ---- a line
@@ -47,13 +47,8 @@ lineText a i = decimal a ++ (ascii ": " ++ (bodyText i ++ ascii "\n"))
 
 -- ---- the listing
 
--- the lines of instructions, the first of which is at address a
-unfoldable pub linesFrom : ℕ → List Instr → List ℕ
-linesFrom a [] = []
-linesFrom a (i ∷ is) = lineText a i ++ linesFrom (suc a) is
-
 unfoldable pub listing : List ℕ → List ℕ
-listing p = linesFrom 0 (program p)
+listing p = numbered lineText 0 (program p)
 
 -- the bytes that the buffer needs for each instruction
 abbrev pub room : ℕ

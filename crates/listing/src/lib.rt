@@ -48,7 +48,7 @@ fn put_reg(out: &mut [u8], at: usize, r: Reg) -> usize
     ensures { λ n. ⌜ Put (now (out .entry)) at (regText r) n (now (out .exit)) ⌝ }
 {
     let to = text::put(out, at, b"r");
-    text::put_decimal(out, to, r.0 as u32)
+    text::put_decimal(out, to, r.0 as u64)
 }
 
 // Two registers in brackets.
@@ -67,7 +67,7 @@ fn put_loadc(out: &mut [u8], at: usize, r: Reg, k: u32) -> usize
 {
     let gets = put_reg(out, at, r);
     let constant = text::put(out, gets, b" := Loadc(");
-    let end = text::put_decimal(out, constant, k);
+    let end = text::put_decimal(out, constant, k as u64);
     text::put(out, end, b")")
 }
 
@@ -114,7 +114,7 @@ fn put_body(out: &mut [u8], at: usize, i: Instr) -> usize
 fn put_line(out: &mut [u8], at: usize, address: InstrAddr, i: Instr) -> usize
     ensures { λ n. ⌜ Put (now (out .entry)) at (lineText (address .0) i) n (now (out .exit)) ⌝ }
 {
-    let colon = text::put_decimal(out, at, address.0);
+    let colon = text::put_decimal(out, at, address.0 as u64);
     let body = text::put(out, colon, b": ");
     let end = put_body(out, body, i);
     text::put(out, end, b"\n")

@@ -32,6 +32,11 @@ digits (suc steps) n = let more = digits steps (n / 10) ++ (digit (n % 10) ∷ [
 unfoldable pub decimal : ℕ → List ℕ
 decimal n = digits n n
 
+-- a text for each thing of a list, by its number, from number i on
+unfoldable pub numbered : {A : Type 0} → (ℕ → A → List ℕ) → ℕ → List A → List ℕ
+numbered f i [] = []
+numbered f i (x ∷ xs) = f i x ++ numbered f (suc i) xs
+
 -- the number that digits spell
 unfoldable pub number : List ℕ → ℕ
 number t = foldl (λ n byte. 10 * n + (byte - 48)) 0 t

@@ -20,7 +20,7 @@ pub fn put(out: &mut [u8], at: usize, text: &[u8]) -> usize
     to
 }
 
-fn put_digit(out: &mut [u8], at: usize, n: u32) -> usize
+fn put_digit(out: &mut [u8], at: usize, n: u64) -> usize
     ensures { λ r. ⌜ Put (now (out .entry)) at (digit (n % 10) ∷ []) r (now (out .exit)) ⌝ }
 {
     if at >= out.len() {
@@ -31,7 +31,7 @@ fn put_digit(out: &mut [u8], at: usize, n: u32) -> usize
 }
 
 // Writes a number in decimal, with no leading zero.
-pub fn put_decimal(out: &mut [u8], at: usize, n: u32) -> usize
+pub fn put_decimal(out: &mut [u8], at: usize, n: u64) -> usize
     ensures { λ r. ⌜ Put (now (out .entry)) at (decimal n) r (now (out .exit)) ⌝ }
 {
     if n < 10 {

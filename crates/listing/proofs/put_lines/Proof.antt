@@ -4,19 +4,21 @@ use native.Mathlib.Omega.{arith}
 use borrow.Author.Needs.{needs}
 use lib.ListN.{length}
 use Rattle.text.proofs.Puts.{put-length}
-use Rattle.listing.proofs.Fetched.{fetched-first, fetched-none, fetched-within}
-use Rattle.listing.proofs.Lines.{Written, written-none, written-more, written-all}
+use Rattle.text.proofs.Numbered.{Written, written-none, written-more, written-all}
+use Rattle.isa.specs.Program.{program}
+use Rattle.listing.specs.Listing.{lineText, listing}
+use Rattle.listing.proofs.Fetched.{rest, fetched-first, fetched-none, fetched-within}
 use Rattle.listing.proofs.put_lines.Statement.{statement}
 use Rattle.listing.proofs.put_lines.Tie as tie
 
 abbrev Inv-loop : tie.InvT-loop
-Inv-loop program out₀ address₀ at₀ out address at = Written program out₀ address at out
+Inv-loop program out₀ address₀ at₀ out address at = Written lineText (rest program) out₀ 0 address at out
 
 abbrev μ-loop : tie.MeasureT-loop
 μ-loop program out₀ address₀ at₀ out address at = length program / 8 - address
 
 loop-holds : tie.Need-loop-holds Inv-loop μ-loop
-loop-holds c = written-none (c .before .before .args .program .now) (c .before .before .args .out .now)
+loop-holds c = written-none lineText (rest (c .before .before .args .program .now)) (c .before .before .args .out .now) 0
 
 fetch-requires : tie.Need-fetch-requires Inv-loop μ-loop
 fetch-requires c κs = search needs
@@ -41,15 +43,16 @@ loop-again : tie.Need-loop-again Inv-loop μ-loop
 loop-again c =
     let l = c .before .before .before .before .before .before .before .before .loop in
     let first = fetched-first _ _ (c .before .before .before .before .before .before .before .fetch .ensures) (c .before .before .before .before .before .i .given .1) in
-    written-more _ _ (l .address) (l .at) (l .out) (l .inv) first (c .before .before .put-line .ensures)
+    written-more lineText (rest _) _ 0 (l .address) (l .at) (l .out) (l .inv) first (c .before .before .put-line .ensures)
 
 enum-told : tie.Need-enum-told Inv-loop μ-loop
 enum-told c = search needs
 
 returns : tie.Need-returns Inv-loop μ-loop
+unfolding listing program
 returns c =
     let l = c .before .before .before .loop in
-    written-all _ _ (l .address) (l .at) (l .out) (l .inv) (fetched-none _ _ (c .before .before .fetch .ensures) (c .enum-told .given .1))
+    written-all lineText (rest _) _ 0 (l .address) (l .at) (l .out) (l .inv) (fetched-none _ _ (c .before .before .fetch .ensures) (c .enum-told .given .1))
 
 same-length : tie.Need-same-length Inv-loop μ-loop
 same-length c = put-length (returns c)

@@ -1,0 +1,36 @@
+// What the run program does: three files in, the report out.
+ghost use Rattle.io.specs.Counts.{Counts};
+use libc::STDOUT_FILENO;
+
+// How many of the file's bytes are at the start of the buffer. A file that can't be opened or read counts as one byte, which is
+// no whole record, so the report refuses it as it refuses any other length.
+fn load(path: &[u8], buf: &mut [u8]) -> usize
+    ensures { λ r. ⌜ Counts r (now (buf .exit)) ⌝ }
+{
+    let fd = os::open_read(path);
+    if fd < 0 {
+        return io::count(1, buf);
+    }
+    let n = io::read_full(fd, buf);
+    let mut next = [0u8; 1];
+    let end = libc::read(fd, &mut next);
+    libc::close(fd);
+    if end < 0 {
+        return io::count(1, buf);
+    }
+    n
+}
+
+// Reads program.ax, memory.ax and schedule.ax, each with room for one byte more than it may have, and prints the report.
+pub fn run() {
+    let mut program = [0u8; 8193];
+    let mut memory = [0u8; 8193];
+    let mut schedule = [0u8; 65537];
+    let mut out = [0u8; 24576];
+    let p = load(b"program.ax", &mut program);
+    let m = load(b"memory.ax", &mut memory);
+    let s = load(b"schedule.ax", &mut schedule);
+    let reported = report::report(&program[..p], &mut memory[..m], &schedule[..s], &mut out);
+    let n = reported.written;
+    io::write_all(STDOUT_FILENO, &out[..n]);
+}

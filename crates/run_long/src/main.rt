@@ -1,0 +1,4 @@
+// The run program where memory.ax is one byte too long.
+fn main() {
+    files::run();
+}
