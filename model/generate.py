@@ -130,49 +130,70 @@ def state_of(templates=(), registers=(), counter=None, count=None):
     return state
 
 
-# The file's form of a state and of a case.
+# The file's form: records of 8 bytes, each with four bytes and a word. A state's part is the counter's record and a row of four
+# records for each place: the register of that number, the template, its two operands. Rows of zeros at the end are left out.
+
+ROW = 32
+
 
 def encode_content(content):
     if isinstance(content, Tag):
-        return struct.pack("<BI", 2, content.number)
-    return struct.pack("<BI", 0, 0) if content is None else struct.pack("<BI", 1, content)
+        return struct.pack("<BBHI", 2, content.number, 0, 0)
+    return struct.pack("<II", 0, 0) if content is None else struct.pack("<II", 1, content)
 
 
 def encode_template(t):
-    head = struct.pack("<IBBB", t.address, KINDS.index(t.kind), t.tag, t.operation)
+    head = struct.pack("<BBBBI", KINDS.index(t.kind), t.tag, t.operation, 0, t.address)
     return head + encode_content(t.first) + encode_content(t.second)
 
 
 def encode_state(state, stored=0):
-    """At least the given number of places, and always those that aren't blank."""
-    while any(place != ax.BLANK for place in state.places[stored:]):
-        stored += 1
-    counter = struct.pack("<BI", 1, 0) if state.counter == STALL else struct.pack("<BI", 0, state.counter)
-    registers = b"".join(encode_content(content) for content in state.registers)
-    places = b"".join(encode_template(t) for t in state.places[:stored])
-    return counter + registers + bytes((state.count, stored)) + places
+    """At least the given number of rows."""
+    stalled = state.counter == STALL
+    counter = struct.pack("<BBHI", stalled, state.count, 0, 0 if stalled else state.counter)
+    registers = state.registers + [None] * (ax.PLACES - ax.REGISTERS)
+    rows = [encode_content(content) + encode_template(t) for content, t in zip(registers, state.places)]
+    while len(rows) > stored and not any(rows[-1]):
+        rows.pop()
+    return counter + b"".join(rows)
 
 
 def decode_content(data):
-    kind, number = struct.unpack("<BI", data)
-    return (None, number, Tag(number))[kind]
+    mark, tag, word = struct.unpack("<BBxxI", data)
+    return (None, word, Tag(tag))[mark]
 
 
 def decode_template(data):
-    address, kind, tag, operation = struct.unpack("<IBBB", data[:7])
-    return Template(address, KINDS[kind], tag, operation, decode_content(data[7:12]), decode_content(data[12:17]))
+    kind, tag, operation, address = struct.unpack("<BBBxI", data[:8])
+    return Template(address, KINDS[kind], tag, operation, decode_content(data[8:16]), decode_content(data[16:24]))
 
 
 def decode_state(data):
-    """The state at the start of the data, and its length."""
     state = ax.State()
-    stalled, address = struct.unpack("<BI", data[:5])
+    stalled, state.count, address = struct.unpack("<BBxxI", data[:8])
     state.counter = STALL if stalled else address
-    state.registers = [decode_content(data[5 + 5 * r:10 + 5 * r]) for r in range(ax.REGISTERS)]
-    state.count, stored = data[165], data[166]
-    for place in range(stored):
-        state.places[place] = decode_template(data[167 + 17 * place:184 + 17 * place])
-    return state, 167 + 17 * stored
+    rows = [data[start:start + ROW] for start in range(8, len(data), ROW)]
+    rows += [bytes(ROW)] * (ax.PLACES - len(rows))
+    state.registers = [decode_content(row[:8]) for row in rows[:ax.REGISTERS]]
+    state.places = [decode_template(row[8:]) for row in rows]
+    return state
+
+
+def encode_case(kind, program, memory, schedule, rest):
+    """A record with the length of each part, the first with the kind too, and the parts."""
+    head = struct.pack("<8I", kind, len(program), 0, len(memory), 0, len(schedule), 0, len(rest))
+    return head + program + memory + schedule + rest
+
+
+def decode_case(data):
+    """The kind, and the four parts."""
+    numbers = struct.unpack("<8I", data[:32])
+    parts, start = [], 32
+    for length in numbers[1::2]:
+        parts.append(data[start:start + length])
+        start += length
+    assert start == len(data)
+    return numbers[0], parts
 
 
 class Cases:
@@ -181,17 +202,14 @@ class Cases:
     def __init__(self):
         self.encoded = []
 
-    def add(self, kind, program, memory, last, rest):
-        self.encoded.append(struct.pack("<IIII", kind, len(program), len(memory), last) + program + memory + rest)
-
     def report(self, program, memory, schedule):
-        self.add(0, program, memory, len(schedule), schedule)
+        self.encoded.append(encode_case(0, program, memory, schedule, b""))
 
     def in_order(self, program, memory, budget):
-        self.add(1, program, memory, budget, b"")
+        self.encoded.append(encode_case(1, program, memory, b"", struct.pack("<II", 0, budget)))
 
     def handed(self, program, memory, schedule, state, stored=0):
-        self.add(2, program, memory, len(schedule), schedule + encode_state(state, stored))
+        self.encoded.append(encode_case(2, program, memory, schedule, encode_state(state, stored)))
 
     def all_kinds(self, program, memory, schedule):
         """The same three buffers in each kind, from the start state."""
@@ -221,19 +239,13 @@ def handed_lines(program, memory, schedule, state):
 
 def case_text(data):
     """What is printed for one encoded case."""
-    kind, p, m, s = struct.unpack("<IIII", data[:16])
-    program, memory = data[16:16 + p], data[16 + p:16 + p + m]
-    rest = data[16 + p + m:]
+    kind, (program, memory, schedule, rest) = decode_case(data)
     if kind == 0:
-        assert len(rest) == s
-        return ax.report(program, memory, rest)
+        return ax.report(program, memory, schedule)
     if kind == 1:
-        assert len(rest) == 0
-        lines = in_order_lines(program, memory, s)
+        lines = in_order_lines(program, memory, struct.unpack("<II", rest)[1])
     else:
-        state, length = decode_state(rest[s:])
-        assert len(rest) == s + length
-        lines = handed_lines(program, memory, rest[:s], state)
+        lines = handed_lines(program, memory, schedule, decode_state(rest))
     return "".join(line + "\n" for line in lines)
 
 
@@ -1010,7 +1022,7 @@ def all_cases():
 def main(data_path, text_path):
     cases = all_cases()
     with open(data_path, "wb") as data:
-        data.write(b"".join(cases))
+        data.write(struct.pack("<II", 0, len(cases)) + b"".join(cases))
     with open(text_path, "w", encoding="ascii", newline="\n") as text:
         for number, case in enumerate(cases):
             text.write("case %d\n%s" % (number, case_text(case)))

@@ -467,9 +467,8 @@ class Generator(unittest.TestCase):
         for number in range(100):
             state = g.sound_state(rng, 5)
             g.damage_state(rng, state, 5)
-            data = g.encode_state(state, number % 65)
-            decoded, length = g.decode_state(data + b"more")
-            self.assertEqual((vars(decoded), length), (vars(state), len(data)))
+            decoded = g.decode_state(g.encode_state(state, number % 65))
+            self.assertEqual(vars(decoded), vars(state))
 
 
 if __name__ == "__main__":
