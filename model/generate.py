@@ -11,6 +11,7 @@ from ax import JZ, LOAD, OP, STALL, STORE, VALUE, Rule, Tag, Template
 SEED = 0x9E3779B97F4A7C15
 LAST = (1 << 32) - 1
 EIGHTH = 1 << 29  # eight times this wraps to 0 in 32 bits
+BUDGET = 1000  # for the in-order run of the same program and memory behind each report
 CORNERS = (0, 1, 2, 3, 7, 65535, 65536, (1 << 31) - 1, 1 << 31, (1 << 31) + 1, LAST - 6, LAST - 1, LAST)
 KINDS = (VALUE, OP, JZ, LOAD, STORE)  # in the order of their numbers in the file
 
@@ -241,7 +242,8 @@ def case_text(data):
     """What is printed for one encoded case."""
     kind, (program, memory, schedule, rest) = decode_case(data)
     if kind == 0:
-        return ax.report(program, memory, schedule)
+        lines = in_order_lines(program, memory, BUDGET)
+        return ax.report(program, memory, schedule) + "".join(line + "\n" for line in lines)
     if kind == 1:
         lines = in_order_lines(program, memory, struct.unpack("<II", rest)[1])
     else:

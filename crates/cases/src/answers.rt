@@ -1,4 +1,4 @@
-// What a case answers, by its kind: a report, an in-order run, or a run and a drain from a handed state.
+// What a case answers, by its kind: a report and an in-order run, an in-order run, or a run and a drain from a handed state.
 use crate::bytes;
 use crate::parts;
 use crate::show;
@@ -9,12 +9,22 @@ use templates::State;
 // One cell more than a memory may have, which some case tries.
 const MEMORY: usize = 8200;
 
-// A report's 24,576 bytes, and the lines before it.
-const TEXT: usize = 24832;
+// Twice a report's 24,576 bytes, and the lines before each.
+const TEXT: usize = 49408;
+
+// How many instructions are executed in order, of the program that a report is about.
+const BUDGET: u32 = 1000;
+
+// The report, then the same program and memory in order.
+fn report(out: &mut [u8], at: usize, case: &[u8], memory: &mut [u8]) -> usize {
+    let to = show::run_in_full(out, at, parts::program(case), memory, parts::schedule(case));
+    bytes::copy(parts::memory(case), memory);
+    in_order(out, to, case, memory, BUDGET)
+}
 
 // Refused input, with 1 to 3, has no contents to print.
-fn in_order(out: &mut [u8], at: usize, case: &[u8], memory: &mut [u8]) -> usize {
-    let ran = InOrder::start().run(parts::program(case), memory, parts::budget(case));
+fn in_order(out: &mut [u8], at: usize, case: &[u8], memory: &mut [u8], budget: u32) -> usize {
+    let ran = InOrder::start().run(parts::program(case), memory, budget);
     let stop = ran.stop;
     let machine = ran.machine;
     let to = show::executed(out, at, ran);
@@ -48,8 +58,8 @@ fn drained(out: &mut [u8], at: usize, program: &[u8], memory: &mut [u8], state: 
 fn answer(out: &mut [u8], at: usize, case: &[u8], memory: &mut [u8]) -> usize {
     let kind = parts::kind(case);
     match kind {
-        0 => show::run_in_full(out, at, parts::program(case), memory, parts::schedule(case)),
-        1 => in_order(out, at, case, memory),
+        0 => report(out, at, case, memory),
+        1 => in_order(out, at, case, memory, parts::budget(case)),
         2 => handed(out, at, case, memory),
         _ => show::line(out, at, b"no case is of kind ", kind as u64),
     }

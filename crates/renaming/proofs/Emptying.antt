@@ -4,16 +4,18 @@ use mathlib.Core.Logic.{_≢_}
 use Prim.Native.Nat.{ℕ, zero, suc, _+_, _-_, _/_, _<_, _≤_}
 use native.Mathlib.Decide.{decLt}
 use native.Mathlib.Omega.{arith}
+use mathlib.Core.Bool.{Bool, true, false, cond, _||_}
 use mathlib.Core.List.{List, [], _∷_}
 use lib.ListN.{length, take, drop, getElem?}
 use lib.Seq.{drop-cons}
 use borrow.Author.Tests.{lt-ltb, le-ltb}
 use Rattle.records.specs.declared.Verdict.{Verdict}
-use Rattle.records.specs.Refusal.{outside}
+use Rattle.records.specs.Refusal.{stillHeld, outside}
 use Rattle.records.specs.Scan.{accepted}
 use Rattle.records.specs.Try.{Try, got, fails}
 use Rattle.value.specs.declared.Value.{Value}
 use Rattle.value.specs.declared.Value.the-variants.{Undefined, Word}
+use Rattle.isa.specs.declared.Tag.{Tag}
 use Rattle.isa.specs.Program as Program
 use Rattle.cells.specs.Cells.{cells, image, Formed, inside, loadFrom}
 use Rattle.kernel.specs.Kernel.{readAt, writeAt, number}
@@ -21,10 +23,10 @@ use Rattle.kernel.proofs.Checking.{refuses, works}
 use Rattle.templates.specs.declared.Operand.{Operand}
 use Rattle.templates.specs.declared.Operand.the-variants.{Known, Waits}
 use Rattle.templates.specs.declared.Work.{Work}
-use Rattle.templates.specs.declared.Work.the-variants.{Store}
+use Rattle.templates.specs.declared.Work.the-variants.{Done, Store}
 use Rattle.templates.specs.declared.Template.{Template}
 use Rattle.templates.specs.declared.State.{State}
-use Rattle.templates.specs.Templates.{template, blank}
+use Rattle.templates.specs.Templates.{template, blank, anyHolds, anyReg}
 use Rattle.templates.specs.Layout.{machOf}
 use Rattle.templates.proofs.Places.{held-length}
 use Rattle.sound.proofs.Decides.{sound-said}
@@ -34,7 +36,7 @@ use Rattle.renaming.specs.declared.Settled.{Settled}
 use Rattle.renaming.specs.Rules as Rules
 use Rattle.renaming.specs.Rules.{Step, refused, storing}
 use Rattle.renaming.specs.Answers.{answerOf, before, behind, Stands, at, Fit, Acts}
-use Rattle.renaming.specs.Drain.{Drained, further, drainFrom, drain, oldest, asks, refusal, blocking, blockedAt, storeRefusal}
+use Rattle.renaming.specs.Drain.{Drained, further, drainFrom, drain, oldest, asks, refusal, blocking, blockedAt, retireRefusal, storeRefusal}
 use Rattle.renaming.specs.Entries.{entered, settled, drained, drainedMemory, Drains, Empties}
 use Rattle.renaming.proofs.Changes.{standing}
 use Rattle.renaming.proofs.Applied.{apply-at}
@@ -71,6 +73,14 @@ module _ (s : State) (x : Template) (w : Work) (h : Stands s 0 x w) where
 
   pub blocked-is : x .address ≡ blockedAt (machOf s .held)
   blocked-is = sym (ap blockedAt front)
+
+-- a value template that is held
+refused-if : (held : Bool) (n : ℕ) (t : Step) → refusal t ≡ 0 → cond held n 0 ≡ refusal (cond held (refused n) t)
+refused-if true n t e = refl
+refused-if false n t e = sym e
+
+pub retire-blocked : (s : State) (x : Template) (t : Tag) (v : Value) (m : List Value) → retireRefusal t (s .registers) (behind s 0) ≡ refusal (at Rule.Retire s 0 x (Done t v) m)
+retire-blocked s x t v m = refused-if (anyReg t (s .registers) || anyHolds t (behind s 0)) stillHeld _ refl
 
 -- a load and a store at an address are refused alike
 load-inside : (m : List Value) (k : ℕ) → k < length m → number (inside (getElem? m k)) ≡ 0

@@ -87,6 +87,10 @@ module _ {s : State} {b : List ℕ} {r : Answer} {b′ : List ℕ} where
   acts-refused (Rules.accepted σ m) a e = absurd (e (ap (λ (x : Answer). x .refusal) (a .answer)))
   acts-refused (refused k) a e = (ap refused (sym (ap (λ (x : Answer). x .refusal) (a .answer))), a .holds)
 
+  pub acts-stay : (t : Step) → Acts s t b r b′ → r .refusal ≢ 0 → r .state ≡ s
+  acts-stay (Rules.accepted σ m) a e = absurd (e (ap (λ (x : Answer). x .refusal) (a .answer)))
+  acts-stay (refused k) a e = ap (λ (x : Answer). x .state) (a .answer)
+
   -- an accepted rule leaves a machine's layout
   pub acts-laid : (t : Step) (k : ℕ) → Numbered t → StaysSound k t → Acts s t b r b′ → r .refusal ≡ 0 → Laid (r .state) × Sound k (machOf (r .state))
   acts-laid (Rules.accepted σ m) k n h a e =

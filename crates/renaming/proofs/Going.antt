@@ -16,7 +16,7 @@ use Rattle.isa.specs.Program as Program
 use Rattle.cells.specs.Cells.{cells, image, Formed}
 use Rattle.kernel.proofs.Checking.{refuses, works}
 use Rattle.templates.specs.declared.State.{State}
-use Rattle.templates.specs.Layout.{machOf}
+use Rattle.templates.specs.Layout.{machOf, stateOf}
 use Rattle.templates.proofs.Places.{stateOf-machOf}
 use Rattle.renaming.specs.declared.Command.{Command}
 use Rattle.renaming.specs.declared.Command.the-variants.{Malformed, Issue, Apply}
@@ -26,7 +26,7 @@ use Rattle.renaming.specs.Schedule.{commandOf, obey}
 use Rattle.renaming.specs.Run.{End, commands, counted, proceed, runFrom}
 use Rattle.renaming.specs.Answers.{Fit, Acts, Obeys}
 use Rattle.renaming.specs.Entries.{entered, enteredWith, once, stepAnswer, stepped, steppedMemory, Steps, enteredRun, runs, ended, ran, ranMemory, Runs, Goes}
-use Rattle.renaming.proofs.Fitting.{acts-refused, obeyed, still-fit}
+use Rattle.renaming.proofs.Fitting.{acts-refused, acts-stay, obeyed, still-fit}
 
 -- ---- step
 
@@ -141,12 +141,13 @@ module _ {p : List ℕ} {s₀ : State} {b₀ records : List ℕ} {s : State} {b 
           formed = λ f. o .formed (l .formed f);
         }
 
-    pub run-stops : r .refusal ≢ 0 → Goes p s₀ b₀ records (record { state = s; accepted = i; issued = k; refusal = r .refusal; number = 0 }) b′
+    pub run-stops : r .refusal ≢ 0 → Goes p s₀ b₀ records (record { state = r .state; accepted = i; issued = k; refusal = r .refusal; number = 0 }) b′
     run-stops z =
         let no = acts-refused (obey (program p) c (machOf s) (cells b)) o z in
+        let same : r .state ≡ stateOf (machOf s) = acts-stay (obey (program p) c (machOf s) (cells b)) o z ∙ sym (stateOf-machOf s (l .fit .laid)) in
         let whole = sym (step ∙ ap (proceed _ _) (no .0)) ∙ l .rest in
         record {
-          answer = ap (λ (q : State). record { state = q; accepted = i; issued = k; refusal = r .refusal; number = 0 }) (sym (stateOf-machOf s (l .fit .laid))) ∙ ap ended whole;
+          answer = ap (λ (q : State). record { state = q; accepted = i; issued = k; refusal = r .refusal; number = 0 }) same ∙ ap ended whole;
           holds = no .1 ∙ ap (λ (x : End). x .memory) whole;
           formed = λ f. o .formed (l .formed f);
         }

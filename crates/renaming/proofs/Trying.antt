@@ -4,21 +4,27 @@ use mathlib.Core.Logic.{_≢_}
 use Prim.Native.Nat.{ℕ, zero, suc, _+_, _-_, _<_, _≤_}
 use native.Mathlib.Numerals.{add-one}
 use native.Mathlib.Omega.{arith}
-use mathlib.Core.List.{List, [], _∷_}
-use lib.ListN.{length, drop}
+use mathlib.Core.List.{List, _∷_}
+use lib.ListN.{length, drop, getD}
 use Rattle.records.specs.Refusal.{noTemplate}
 use Rattle.value.specs.declared.Value.{Value}
 use Rattle.cells.specs.Cells.{cells, Formed}
+use Rattle.templates.specs.declared.Work.{Work}
+use Rattle.templates.specs.declared.Work.the-variants.{Done, Op, Jz, Load, Store}
+use Rattle.templates.specs.declared.Template.{Template}
 use Rattle.templates.specs.declared.State.{State}
-use Rattle.templates.specs.Layout.{machOf}
+use Rattle.templates.specs.Templates.{blank}
+use Rattle.templates.specs.Layout.{machOf, Laid}
 use Rattle.renaming.specs.declared.Rule.{Rule}
+use Rattle.renaming.specs.declared.Rule.the-variants as Rule
 use Rattle.renaming.specs.declared.Answer.{Answer}
 use Rattle.renaming.specs.Rules.{Step, accepted, refused, apply}
-use Rattle.renaming.specs.Answers.{answer, answerOf, memoryOf, Acts}
-use Rattle.renaming.specs.Drain.{first, rules, ruleAt, firstOf, seek, oldest}
+use Rattle.renaming.specs.Answers.{answer, answerOf, memoryOf, Acts, Stands}
+use Rattle.renaming.specs.Drain.{first, rules, ruleAt, firstRule, pastRule, firstOf, seek, oldest}
 use Rattle.renaming.proofs.Numbered.{Numbered, apply-numbered}
 use Rattle.renaming.proofs.Looping.{first-of-on}
 use Rattle.renaming.proofs.Fitting.{acts-refused}
+use Rattle.renaming.proofs.Applied.{apply-at}
 
 -- what is still to be tried answers for the whole, and memory is as it was
 pub record Trying (s : State) (b₀ : List ℕ) (whole left : Step) (b : List ℕ) : Type 0 where
@@ -69,17 +75,66 @@ rules-at (suc (suc (suc (suc (suc (suc zero)))))) h = refl
 rules-at (suc (suc (suc (suc (suc (suc (suc zero))))))) h = refl
 rules-at (suc (suc (suc (suc (suc (suc (suc (suc j)))))))) h = absurd (omega arith)
 
-rules-past : (j : ℕ) → 8 ≤ j → drop j rules ≡ []
-rules-past (suc (suc (suc (suc (suc (suc (suc (suc zero)))))))) h = refl
-rules-past (suc (suc (suc (suc (suc (suc (suc (suc (suc j))))))))) h = refl
-rules-past zero h = absurd (omega arith)
-rules-past (suc zero) h = absurd (omega arith)
-rules-past (suc (suc zero)) h = absurd (omega arith)
-rules-past (suc (suc (suc zero))) h = absurd (omega arith)
-rules-past (suc (suc (suc (suc zero)))) h = absurd (omega arith)
-rules-past (suc (suc (suc (suc (suc zero))))) h = absurd (omega arith)
-rules-past (suc (suc (suc (suc (suc (suc zero)))))) h = absurd (omega arith)
-rules-past (suc (suc (suc (suc (suc (suc (suc zero))))))) h = absurd (omega arith)
+-- those before the first that is for the template are refused, and so are those behind the last
+module _ (s : State) (p : ℕ) (m : List Value) (x : Template) where
+  no-rule-before : (w : Work) → Stands s p x w → firstOf (drop (firstRule w) rules) p (machOf s) m ≡ firstOf rules p (machOf s) m
+  no-rule-before (Done t v) h = rw (apply-at s Rule.Operate p m x (Done t v) h) refl
+  no-rule-before (Op t n a b) h = refl
+  no-rule-before (Jz a b) h =
+      let w = Jz a b in
+      rw (
+        apply-at s Rule.Operate p m x w h,
+        apply-at s Rule.Forward p m x w h,
+        apply-at s Rule.Commit p m x w h,
+        apply-at s Rule.Retire p m x w h,
+        apply-at s Rule.Load p m x w h,
+        apply-at s Rule.Store p m x w h,
+      ) refl
+  no-rule-before (Load t a) h =
+      let w = Load t a in
+      rw (
+        apply-at s Rule.Operate p m x w h,
+        apply-at s Rule.Forward p m x w h,
+        apply-at s Rule.Commit p m x w h,
+        apply-at s Rule.Retire p m x w h,
+      ) refl
+  no-rule-before (Store a b) h =
+      let w = Store a b in
+      rw (
+        apply-at s Rule.Operate p m x w h,
+        apply-at s Rule.Forward p m x w h,
+        apply-at s Rule.Commit p m x w h,
+        apply-at s Rule.Retire p m x w h,
+        apply-at s Rule.Load p m x w h,
+      ) refl
+
+  no-rule-past : (w : Work) → Stands s p x w → firstOf (drop (pastRule w) rules) p (machOf s) m ≡ refused noTemplate
+  no-rule-past (Done t v) h =
+      let w = Done t v in
+      rw (apply-at s Rule.Load p m x w h, apply-at s Rule.Store p m x w h, apply-at s Rule.Jump p m x w h, apply-at s Rule.NoJump p m x w h) refl
+  no-rule-past (Op t n a b) h =
+      let w = Op t n a b in
+      rw (
+        apply-at s Rule.Forward p m x w h,
+        apply-at s Rule.Commit p m x w h,
+        apply-at s Rule.Retire p m x w h,
+        apply-at s Rule.Load p m x w h,
+        apply-at s Rule.Store p m x w h,
+        apply-at s Rule.Jump p m x w h,
+        apply-at s Rule.NoJump p m x w h,
+      ) refl
+  no-rule-past (Jz a b) h = refl
+  no-rule-past (Load t a) h =
+      let w = Load t a in
+      rw (apply-at s Rule.Store p m x w h, apply-at s Rule.Jump p m x w h, apply-at s Rule.NoJump p m x w h) refl
+  no-rule-past (Store a b) h = let w = Store a b in rw (apply-at s Rule.Jump p m x w h, apply-at s Rule.NoJump p m x w h) refl
+
+pub past-within : (w : Work) → (firstRule w ≤ pastRule w) × (pastRule w ≤ 8)
+past-within (Done t v) = (omega arith, omega arith)
+past-within (Op t n a b) = (omega arith, omega arith)
+past-within (Jz a b) = (omega arith, omega arith)
+past-within (Load t a) = (omega arith, omega arith)
+past-within (Store a b) = (omega arith, omega arith)
 
 -- the rules from number j on
 abbrev pub AtPlace : State → ℕ → List ℕ → List ℕ → ℕ → Type 0
@@ -96,9 +151,27 @@ module _ (s : State) (p : ℕ) (b₀ b : List ℕ) (j : ℕ) (l : AtPlace s p b�
   pub rule-miss : r .refusal ≢ 0 → length b′ ≡ length b → AtPlace s p b₀ b′ (j + 1)
   rule-miss z long = rw add-one (miss l (apply rule p (machOf s) (cells b)) _ this a z long)
 
-pub rules-none : (s : State) (p : ℕ) (b₀ b : List ℕ) (j : ℕ) → AtPlace s p b₀ b j → 8 ≤ j → {r : Answer} → r ≡ answer s noTemplate
-    → Acts s (firstOf rules p (machOf s) (cells b₀)) b₀ r b
-rules-none s p b₀ b j l h a = nothing l (rw (rules-past j h) refl) a
+-- the template at the place, and what it has to do
+module _ (s : State) (p : ℕ) (b₀ : List ℕ) (l : Laid s) (h : p < s .count) where
+  abbrev there : Template
+  there = getD (s .templates) p blank
+
+  stands : Stands s p there (there .work)
+  stands = record { laid = l; place = h; here = refl; does = refl }
+
+  pub rules-first : {j : ℕ} → j ≡ firstRule (there .work) → AtPlace s p b₀ b₀ j
+  rules-first e =
+      record {
+        rest = ap (λ (j : ℕ). firstOf (drop j rules) p (machOf s) (cells b₀)) e ∙ no-rule-before s p (cells b₀) there (there .work) stands;
+        same = refl;
+        long = refl;
+        formed = λ f. f;
+      }
+
+  pub rules-none : (b : List ℕ) (j : ℕ) → AtPlace s p b₀ b j → j ≡ pastRule (there .work) → {r : Answer} → r ≡ answer s noTemplate
+      → Acts s (firstOf rules p (machOf s) (cells b₀)) b₀ r b
+  rules-none b j t e a =
+      nothing t (ap (λ (j : ℕ). firstOf (drop j rules) p (machOf s) (cells b₀)) e ∙ no-rule-past s p (cells b₀) there (there .work) stands) a
 
 -- ---- the places, the oldest first
 

@@ -1,18 +1,21 @@
 -- The drain: the lowest place with an allowed rule other than issue, there the lowest rule number, until none.
 use Prim.Native.Nat.{ℕ, zero, suc, _+_, _*_}
-use mathlib.Core.Bool.{cond}
+use mathlib.Core.Bool.{cond, _||_}
 use mathlib.Core.List.{List, [], _∷_}
 use lib.Dec.{eqb}
 use lib.ListN.{length}
-use Rattle.records.specs.Refusal.{noTemplate, needsTag}
+use Rattle.records.specs.Refusal.{noTemplate, needsTag, stillHeld}
 use Rattle.value.specs.declared.Value.{Value}
 use Rattle.isa.specs.declared.InstrAddr.{InstrAddr}
+use Rattle.isa.specs.declared.Tag.{Tag}
 use Rattle.kernel.specs.Kernel.{readAt, number}
 use Rattle.templates.specs.declared.Operand.{Operand}
 use Rattle.templates.specs.declared.Operand.the-variants.{Known, Waits}
 use Rattle.templates.specs.declared.Work.{Work}
 use Rattle.templates.specs.declared.Work.the-variants.{Done, Op, Jz, Load, Store}
 use Rattle.templates.specs.declared.Template.{Template}
+use Rattle.templates.specs.declared.Register.{Register}
+use Rattle.templates.specs.Templates.{anyHolds, anyReg}
 use Rattle.templates.specs.Layout.{Mach, capacity}
 use Rattle.renaming.specs.declared.Rule.{Rule}
 use Rattle.renaming.specs.declared.Rule.the-variants as Rule
@@ -103,6 +106,25 @@ ruleAt j =
     (cond (eqb j 5) Rule.Store
     (cond (eqb j 6) Rule.Jump
     Rule.NoJump))))))
+
+-- the rules for a template, by those numbers: the first, and the number behind the last
+abbrev pub firstRule : Work → ℕ
+firstRule (Done t v) = 1
+firstRule (Op t n x y) = 0
+firstRule (Jz x y) = 6
+firstRule (Load t x) = 4
+firstRule (Store x y) = 5
+
+abbrev pub pastRule : Work → ℕ
+pastRule (Done t v) = 4
+pastRule (Op t n x y) = 1
+pastRule (Jz x y) = 8
+pastRule (Load t x) = 5
+pastRule (Store x y) = 6
+
+-- why a value template doesn't retire, by its tag, the registers and the templates behind it
+abbrev pub retireRefusal : Tag → List Register → List Template → ℕ
+retireRefusal t rf post = cond (anyReg t rf || anyHolds t post) stillHeld 0
 
 -- why a Store that nothing is ahead of doesn't go, by its address and its data
 abbrev pub storeRefusal : List Value → Operand → Operand → ℕ

@@ -182,13 +182,16 @@ abbrev pub isFresh : Tag → List Template → Bool
 isFresh t ts = isNew (λ s. anyMakes s ts) t
 
 -- a writing instruction needs a fresh tag; Jz and Store need 0
+abbrev pub tagSuits : Bool → Tag → Instr → Bool
+tagSuits fresh t (Instr.Loadc r k) = fresh
+tagSuits fresh t (Instr.Loadpc r) = fresh
+tagSuits fresh t (Instr.Op r n r1 r2) = fresh
+tagSuits fresh t (Instr.Jz r1 r2) = eqb (t .0) 0
+tagSuits fresh t (Instr.Load r r1) = fresh
+tagSuits fresh t (Instr.Store r1 r2) = eqb (t .0) 0
+
 abbrev pub tagOk : List Template → Tag → Instr → Bool
-tagOk ts t (Instr.Loadc r k) = isFresh t ts
-tagOk ts t (Instr.Loadpc r) = isFresh t ts
-tagOk ts t (Instr.Op r n r1 r2) = isFresh t ts
-tagOk ts t (Instr.Jz r1 r2) = eqb (t .0) 0
-tagOk ts t (Instr.Load r r1) = isFresh t ts
-tagOk ts t (Instr.Store r1 r2) = eqb (t .0) 0
+tagOk ts t i = tagSuits (isFresh t ts) t i
 
 -- the new template's work: the operands' present contents
 abbrev pub workOf : List Register → InstrAddr → Tag → Instr → Work

@@ -21,8 +21,7 @@ pub(crate) fn apply(s: State, rule: Rule, p: usize, memory: &mut [u8]) -> Answer
     if p >= s.count {
         return change::refused(s, refusal::NO_TEMPLATE);
     }
-    let ts = s.templates;
-    let x = ts[p];
+    let x = s.templates[p];
     let w = x.work;
     match w {
         Work::Done(t, v) => done::at_value(s, rule, p, x, t, v),

@@ -27,7 +27,10 @@ pub(crate) fn refused(s: State, n: u8) -> Answer
 pub(crate) fn accepted(s: State) -> Answer
     ensures { λ r. ⌜ r ≡ answer s 0 ⌝ }
 {
-    refused(s, 0)
+    Answer {
+        state: s,
+        refusal: 0,
+    }
 }
 
 // The template x at place p gets other work.

@@ -1,27 +1,29 @@
 // The drain: the oldest template first, until no rule but issue is allowed.
 ghost use mathlib.Core.Path.{_≡_};
+ghost use Prim.Native.Nat.{_<_};
 ghost use Rattle.records.specs.Scan.{accepted};
 ghost use Rattle.isa.specs.Program.{scanOf};
 ghost use Rattle.cells.specs.Cells.{cells};
 ghost use Rattle.templates.specs.Layout.{machOf, Laid};
-ghost use Rattle.renaming.specs.Drain.{ruleAt, rules, firstOf, oldest, storeRefusal, blocking, blockedAt};
-ghost use Rattle.renaming.specs.Answers.{Fit, Within, Acts};
+ghost use Rattle.renaming.specs.Drain.{ruleAt, firstRule, pastRule, rules, firstOf, oldest, retireRefusal, storeRefusal, blocking, blockedAt};
+ghost use Rattle.renaming.specs.Answers.{behind, Fit, Within, Acts};
 ghost use Rattle.renaming.specs.Entries.{settled, Empties, Drains};
 use crate::Answer;
 use crate::Rule;
 use crate::Settled;
 use crate::apply;
 use crate::change;
-use crate::done;
 use crate::entry;
 use crate::memory;
 use crate::waiting;
 use cells::Loaded;
 use isa::InstrAddr;
+use isa::Tag;
 use records::refusal;
 use templates::Operand;
 use templates::State;
 use templates::Work;
+use templates::table;
 
 // The rules but issue by their numbers, 2 to 9.
 fn rule_at(j: usize) -> Rule
@@ -39,13 +41,42 @@ fn rule_at(j: usize) -> Rule
     }
 }
 
-// The lowest rule that is allowed at a place.
+// The rules for a template, by those numbers: the first.
+fn first_rule(w: Work) -> usize
+    ensures { λ r. ⌜ r ≡ firstRule w ⌝ }
+{
+    match w {
+        Work::Done(_, _) => 1,
+        Work::Op(_, _, _, _) => 0,
+        Work::Jz(_, _) => 6,
+        Work::Load(_, _) => 4,
+        Work::Store(_, _) => 5,
+    }
+}
+
+// The number behind the last; no rule from there on is for the template.
+fn past_rule(w: Work) -> usize
+    ensures { λ r. ⌜ r ≡ pastRule w ⌝ }
+{
+    match w {
+        Work::Done(_, _) => 4,
+        Work::Op(_, _, _, _) => 1,
+        Work::Jz(_, _) => 8,
+        Work::Load(_, _) => 5,
+        Work::Store(_, _) => 6,
+    }
+}
+
+// The lowest rule that is allowed at a template's place; those for other kinds are not tried.
 fn first_at(s: State, p: usize, memory: &mut [u8]) -> Answer
-    requires { ⌜ Laid s × Within s ⌝ }
+    requires { ⌜ Laid s × Within s × (p < s .count) ⌝ }
     ensures { λ r. ⌜ Acts s (firstOf rules p (machOf s) (cells (now (memory .entry)))) (now (memory .entry)) r (now (memory .exit)) ⌝ }
 {
-    let mut j: usize = 0;
-    while j < 8 {
+    let x = s.templates[p];
+    let w = x.work;
+    let end = past_rule(w);
+    let mut j = first_rule(w);
+    while j < end {
         let answer = apply::apply(s, rule_at(j), p, memory);
         if answer.refusal == 0 {
             return answer;
@@ -88,6 +119,19 @@ fn store_refusal(a: Operand, b: Operand, memory: &[u8]) -> u8
     }
 }
 
+// Why the oldest template, if it is a value template, doesn't retire.
+fn retire_refusal(s: State, t: Tag) -> u8
+    ensures { λ r. ⌜ r ≡ retireRefusal t (s .registers) (behind s 0) ⌝ }
+{
+    let rf = s.registers;
+    let ts = s.templates;
+    let n = s.count;
+    if table::held_by_register(rf, t) | table::held_from(ts, n, 1, t) {
+        return refusal::STILL_HELD;
+    }
+    0
+}
+
 // Why the oldest template doesn't run; 0 if there is none.
 fn blocked_by(s: State, memory: &[u8]) -> u8
     requires { ⌜ Laid s × Within s ⌝ }
@@ -100,10 +144,10 @@ fn blocked_by(s: State, memory: &[u8]) -> u8
     let x = ts[0];
     let w = x.work;
     match w {
-        Work::Done(t, v) => done::at_value(s, Rule::Retire, 0, x, t, v).refusal,
-        Work::Op(t, n, a, b) => waiting::at_op(s, Rule::Operate, 0, x, t, n, a, b).refusal,
-        Work::Jz(a, b) => waiting::at_jz(s, Rule::Jump, 0, x, a, b).refusal,
-        Work::Load(t, a) => memory::at_load(s, Rule::Load, 0, x, t, a, memory).refusal,
+        Work::Done(t, _) => retire_refusal(s, t),
+        Work::Op(t, n, a, b) => waiting::operate(s, 0, x, t, n, a, b).refusal,
+        Work::Jz(a, b) => waiting::jump(s, 0, x, a, b).refusal,
+        Work::Load(t, a) => memory::load(s, 0, x, t, a, memory).refusal,
         Work::Store(a, b) => store_refusal(a, b, memory),
     }
 }

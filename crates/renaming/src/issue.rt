@@ -5,7 +5,7 @@ ghost use lib.ListN.{take};
 ghost use Rattle.records.specs.Scan.{accepted};
 ghost use Rattle.isa.specs.Program.{scanOf};
 ghost use Rattle.templates.specs.Layout.{machOf, Laid};
-ghost use Rattle.renaming.specs.Rules.{isFresh, tagOk, workOf, renamed, counterAfter, issueAt};
+ghost use Rattle.renaming.specs.Rules.{isFresh, tagSuits, workOf, renamed, counterAfter, issueAt};
 ghost use Rattle.renaming.specs.Answers.{Gives, Issues};
 use crate::Answer;
 use crate::change;
@@ -82,15 +82,15 @@ fn is_fresh(ts: [Template; 64], n: usize, t: Tag) -> bool
     (0 < t.0) & ((t.0 <= 64) & unused)
 }
 
-fn tag_ok(ts: [Template; 64], n: usize, t: Tag, i: Instr) -> bool
-    ensures { λ r. ⌜ r ≡ tagOk (take n ts) t i ⌝ }
+fn tag_suits(fresh: bool, t: Tag, i: Instr) -> bool
+    ensures { λ r. ⌜ r ≡ tagSuits fresh t i ⌝ }
 {
     match i {
-        Instr::Loadc(_, _) => is_fresh(ts, n, t),
-        Instr::Loadpc(_) => is_fresh(ts, n, t),
-        Instr::Op(_, _, _, _) => is_fresh(ts, n, t),
+        Instr::Loadc(_, _) => fresh,
+        Instr::Loadpc(_) => fresh,
+        Instr::Op(_, _, _, _) => fresh,
         Instr::Jz(_, _) => t.0 == 0,
-        Instr::Load(_, _) => is_fresh(ts, n, t),
+        Instr::Load(_, _) => fresh,
         Instr::Store(_, _) => t.0 == 0,
     }
 }
@@ -105,7 +105,8 @@ fn issue_at(s: State, t: Tag, ia: InstrAddr, i: Instr) -> Answer
         return change::refused(s, refusal::FULL);
     }
     let mut ts = s.templates;
-    if !tag_ok(ts, n, t, i) {
+    let fresh = is_fresh(ts, n, t);
+    if !tag_suits(fresh, t, i) {
         return change::refused(s, refusal::BAD_TAG);
     }
     let rf = s.registers;

@@ -43,6 +43,7 @@ fn go(s: State, program: &[u8], memory: &mut [u8], records: &[u8]) -> Ran
         );
         let answer = schedule::obey(state, program, memory, c);
         let no = answer.refusal;
+        state = answer.state;
         if no != 0 {
             return Ran {
                 state: state,
@@ -52,7 +53,6 @@ fn go(s: State, program: &[u8], memory: &mut [u8], records: &[u8]) -> Ran
                 number: 0,
             };
         }
-        state = answer.state;
         issued = count(c, issued);
         i += 1;
     }

@@ -17,7 +17,15 @@ use templates::Template;
 use templates::Work;
 use value::Value;
 
-fn operate(s: State, p: usize, x: Template, t: Tag, n: u8, a: Operand, b: Operand) -> Answer
+pub(crate) fn operate(
+    s: State,
+    p: usize,
+    x: Template,
+    t: Tag,
+    n: u8,
+    a: Operand,
+    b: Operand,
+) -> Answer
     requires { ⌜ Stands s p x (Work.Op t n a b) ⌝ }
     ensures { λ r. ⌜ Gives s (at Rule.Operate s p x (Work.Op t n a b)) r ⌝ }
 {
@@ -36,7 +44,7 @@ fn operate(s: State, p: usize, x: Template, t: Tag, n: u8, a: Operand, b: Operan
     }
 }
 
-fn jump(s: State, p: usize, x: Template, a: Operand, b: Operand) -> Answer
+pub(crate) fn jump(s: State, p: usize, x: Template, a: Operand, b: Operand) -> Answer
     requires { ⌜ Stands s p x (Work.Jz a b) ⌝ }
     ensures { λ r. ⌜ Gives s (at Rule.Jump s p x (Work.Jz a b)) r ⌝ }
 {

@@ -5,7 +5,7 @@ use lib.ListN.{getD}
 use Rattle.cells.specs.Cells.{cells}
 use Rattle.templates.specs.declared.Work.the-variants.{Done, Op, Jz, Load, Store}
 use Rattle.templates.specs.Templates.{blank}
-use Rattle.renaming.proofs.Emptying.{blocking-none, blocking-is, blocking-answer, store-blocked}
+use Rattle.renaming.proofs.Emptying.{blocking-none, blocking-is, blocking-answer, retire-blocked, store-blocked}
 use borrow.Author.Needs.{needs}
 use Rattle.renaming.proofs.draining.blocked_by.Statement.{statement}
 use Rattle.renaming.proofs.draining.blocked_by.Tie as tie
@@ -19,26 +19,26 @@ array-copy-out-x c = search needs
 enum-known-w : tie.Need-enum-known-w
 enum-known-w c = search needs
 
-at-value-requires : tie.Need-at-value-requires
-at-value-requires c κs = search needs
+retire-refusal-requires : tie.Need-retire-refusal-requires
+retire-refusal-requires c κs = search needs
 
 enum-known-w-2 : tie.Need-enum-known-w-2
 enum-known-w-2 c = search needs
 
-at-op-requires : tie.Need-at-op-requires
-at-op-requires c κs = search needs
+operate-requires : tie.Need-operate-requires
+operate-requires c κs = search needs
 
 enum-known-w-3 : tie.Need-enum-known-w-3
 enum-known-w-3 c = search needs
 
-at-jz-requires : tie.Need-at-jz-requires
-at-jz-requires c κs = (record { laid = c .before .before .before .before .before .before .before .before .pre .0; place = pos-of-ne-zero (c .before .before .before .before .before .if1 .left); here = refl; does = c .before .w3 .given .1 }, c .before .before .before .before .before .before .before .before .pre .1 0 (pos-of-ne-zero (c .before .before .before .before .before .if1 .left)))
+jump-requires : tie.Need-jump-requires
+jump-requires c κs = record { laid = c .before .before .before .before .before .before .before .before .pre .0; place = pos-of-ne-zero (c .before .before .before .before .before .if1 .left); here = refl; does = c .before .w3 .given .1 }
 
 enum-known-w-4 : tie.Need-enum-known-w-4
 enum-known-w-4 c = search needs
 
-at-load-requires : tie.Need-at-load-requires
-at-load-requires c κs = search needs
+load-requires : tie.Need-load-requires
+load-requires c κs = search needs
 
 enum-known-w-5 : tie.Need-enum-known-w-5
 enum-known-w-5 c = search needs
@@ -47,16 +47,19 @@ store-refusal-requires : tie.Need-store-refusal-requires
 store-refusal-requires c κs = search needs
 
 returns-2 : tie.Need-returns-2
-returns-2 c = blocking-answer (c .before .before .before .before .before .before .before .before .before .args .s) (getD (c .before .before .before .before .before .before .before .before .before .args .s .templates) 0 blank) (Done (c .before .before .w .given .0 .0) (c .before .before .w .given .0 .1 .0)) (record { laid = c .before .before .before .before .before .before .before .before .before .pre .0; place = pos-of-ne-zero (c .before .before .before .before .before .before .if1 .left); here = refl; does = c .before .before .w .given .1 }) (cells (c .before .before .before .before .before .before .before .before .before .args .memory .now)) (c .at-value .ensures (cells (c .before .before .before .before .before .before .before .before .before .args .memory .now)))
+returns-2 c =
+    let m = cells (c .before .before .before .before .before .before .before .before .before .args .memory .now) in
+    c .retire-refusal .ensures ∙ retire-blocked (c .before .before .before .before .before .before .before .before .before .args .s) (getD (c .before .before .before .before .before .before .before .before .before .args .s .templates) 0 blank) (c .before .before .w .given .0 .0) (c .before .before .w .given .0 .1 .0) m
+    ∙ blocking-is (c .before .before .before .before .before .before .before .before .before .args .s) (getD (c .before .before .before .before .before .before .before .before .before .args .s .templates) 0 blank) (Done (c .before .before .w .given .0 .0) (c .before .before .w .given .0 .1 .0)) (record { laid = c .before .before .before .before .before .before .before .before .before .pre .0; place = pos-of-ne-zero (c .before .before .before .before .before .before .if1 .left); here = refl; does = c .before .before .w .given .1 }) m
 
 returns-3 : tie.Need-returns-3
-returns-3 c = blocking-answer (c .before .before .before .before .before .before .before .before .before .args .s) (getD (c .before .before .before .before .before .before .before .before .before .args .s .templates) 0 blank) (Op (c .before .before .w2 .given .0 .0) (c .before .before .w2 .given .0 .1 .0) (c .before .before .w2 .given .0 .1 .1 .0) (c .before .before .w2 .given .0 .1 .1 .1 .0)) (record { laid = c .before .before .before .before .before .before .before .before .before .pre .0; place = pos-of-ne-zero (c .before .before .before .before .before .before .if1 .left); here = refl; does = c .before .before .w2 .given .1 }) (cells (c .before .before .before .before .before .before .before .before .before .args .memory .now)) (c .at-op .ensures (cells (c .before .before .before .before .before .before .before .before .before .args .memory .now)))
+returns-3 c = blocking-answer (c .before .before .before .before .before .before .before .before .before .args .s) (getD (c .before .before .before .before .before .before .before .before .before .args .s .templates) 0 blank) (Op (c .before .before .w2 .given .0 .0) (c .before .before .w2 .given .0 .1 .0) (c .before .before .w2 .given .0 .1 .1 .0) (c .before .before .w2 .given .0 .1 .1 .1 .0)) (record { laid = c .before .before .before .before .before .before .before .before .before .pre .0; place = pos-of-ne-zero (c .before .before .before .before .before .before .if1 .left); here = refl; does = c .before .before .w2 .given .1 }) (cells (c .before .before .before .before .before .before .before .before .before .args .memory .now)) (c .operate .ensures (cells (c .before .before .before .before .before .before .before .before .before .args .memory .now)))
 
 returns-4 : tie.Need-returns-4
-returns-4 c = blocking-answer (c .before .before .before .before .before .before .before .before .before .args .s) (getD (c .before .before .before .before .before .before .before .before .before .args .s .templates) 0 blank) (Jz (c .before .before .w3 .given .0 .0) (c .before .before .w3 .given .0 .1 .0)) (record { laid = c .before .before .before .before .before .before .before .before .before .pre .0; place = pos-of-ne-zero (c .before .before .before .before .before .before .if1 .left); here = refl; does = c .before .before .w3 .given .1 }) (cells (c .before .before .before .before .before .before .before .before .before .args .memory .now)) (c .at-jz .ensures (cells (c .before .before .before .before .before .before .before .before .before .args .memory .now)))
+returns-4 c = blocking-answer (c .before .before .before .before .before .before .before .before .before .args .s) (getD (c .before .before .before .before .before .before .before .before .before .args .s .templates) 0 blank) (Jz (c .before .before .w3 .given .0 .0) (c .before .before .w3 .given .0 .1 .0)) (record { laid = c .before .before .before .before .before .before .before .before .before .pre .0; place = pos-of-ne-zero (c .before .before .before .before .before .before .if1 .left); here = refl; does = c .before .before .w3 .given .1 }) (cells (c .before .before .before .before .before .before .before .before .before .args .memory .now)) (c .jump .ensures (cells (c .before .before .before .before .before .before .before .before .before .args .memory .now)))
 
 returns-5 : tie.Need-returns-5
-returns-5 c = blocking-answer (c .before .before .before .before .before .before .before .before .before .args .s) (getD (c .before .before .before .before .before .before .before .before .before .args .s .templates) 0 blank) (Load (c .before .before .w4 .given .0 .0) (c .before .before .w4 .given .0 .1 .0)) (record { laid = c .before .before .before .before .before .before .before .before .before .pre .0; place = pos-of-ne-zero (c .before .before .before .before .before .before .if1 .left); here = refl; does = c .before .before .w4 .given .1 }) (cells (c .before .before .before .before .before .before .before .before .before .args .memory .now)) (c .at-load .ensures)
+returns-5 c = blocking-answer (c .before .before .before .before .before .before .before .before .before .args .s) (getD (c .before .before .before .before .before .before .before .before .before .args .s .templates) 0 blank) (Load (c .before .before .w4 .given .0 .0) (c .before .before .w4 .given .0 .1 .0)) (record { laid = c .before .before .before .before .before .before .before .before .before .pre .0; place = pos-of-ne-zero (c .before .before .before .before .before .before .if1 .left); here = refl; does = c .before .before .w4 .given .1 }) (cells (c .before .before .before .before .before .before .before .before .before .args .memory .now)) (c .load .ensures)
 
 returns-6 : tie.Need-returns-6
 returns-6 c =
@@ -71,13 +74,13 @@ blocked-by-spec =
     returns
     array-copy-out-x
     enum-known-w
-    at-value-requires
+    retire-refusal-requires
     enum-known-w-2
-    at-op-requires
+    operate-requires
     enum-known-w-3
-    at-jz-requires
+    jump-requires
     enum-known-w-4
-    at-load-requires
+    load-requires
     enum-known-w-5
     store-refusal-requires
     returns-2

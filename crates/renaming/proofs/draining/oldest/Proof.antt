@@ -18,7 +18,7 @@ loop-holds : tie.Need-loop-holds Inv-loop μ-loop
 loop-holds c = places-first (c .before .args .s) (c .before .args .s .count) (c .before .args .memory .now) (held-length (c .before .args .s) (c .before .pre .0))
 
 first-at-requires : tie.Need-first-at-requires Inv-loop μ-loop
-first-at-requires c κs = c .before .before .before .before .pre
+first-at-requires c κs = (c .before .before .before .before .pre .0, c .before .before .before .before .pre .1, c .before .loop-test .taken)
 
 same-length : tie.Need-same-length Inv-loop μ-loop
 same-length c = c .before .before .before .before .first-at .kept .1 .1 .0 ∙ c .before .before .before .before .before .before .before .loop .inv .long

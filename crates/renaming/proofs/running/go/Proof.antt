@@ -48,10 +48,10 @@ obey-requires : tie.Need-obey-requires Inv-loop μ-loop
 obey-requires c κs = (c .before .before .before .before .before .before .before .loop .inv .fit .laid, fit-within (c .before .before .before .before .before .before .before .before .before .before .before .args .program .now) (c .before .before .before .before .before .before .before .loop .state) (c .before .before .before .before .before .before .before .before .before .before .before .pre .1) (c .before .before .before .before .before .before .before .loop .inv .fit), c .before .before .before .before .before .before .before .before .before .before .before .pre .1)
 
 same-length : tie.Need-same-length Inv-loop μ-loop
-same-length c = c .before .before .before .obey .kept .1 .1 .0 ∙ c .before .before .before .before .before .before .before .before .before .before .before .loop .inv .long
+same-length c = c .before .before .before .before .obey .kept .1 .1 .0 ∙ c .before .before .before .before .before .before .before .before .before .before .before .before .loop .inv .long
 
 returns : tie.Need-returns Inv-loop μ-loop
-returns c = run-stops (c .before .before .before .before .before .before .before .before .before .before .before .loop .inv) (c .before .before .before .before .before .before .before .before .before .before .before .before .before .before .before .pre .1) (c .before .before .before .before .before .before .before .before .before .before .loop-test .taken) (c .before .before .before .before .before .read .ensures) (c .before .before .before .obey .ensures) (c .if1 .taken)
+returns c = run-stops (c .before .before .before .before .before .before .before .before .before .before .before .before .loop .inv) (c .before .before .before .before .before .before .before .before .before .before .before .before .before .before .before .before .pre .1) (c .before .before .before .before .before .before .before .before .before .before .before .loop-test .taken) (c .before .before .before .before .before .before .read .ensures) (c .before .before .before .before .obey .ensures) (c .if1 .taken)
 
 count-requires : tie.Need-count-requires Inv-loop μ-loop
 count-requires c κs = let l = c .before .before .before .before .before .before .before .before .before .before .before .before .loop .inv .issues in omega (arith, c .before .before .before .before .before .before .before .before .before .before .before .loop-test .taken, c .before .before .before .before .before .before .before .before .before .before .before .before .before .before .before .before .good)
@@ -66,7 +66,7 @@ loop-again : tie.Need-loop-again Inv-loop μ-loop
 loop-again c =
     subst (λ (k : ℕ). Left (c .before .before .before .before .before .before .before .before .before .before .before .before .before .before .before .before .before .args .program .now) (c .before .before .before .before .before .before .before .before .before .before .before .before .before .before .before .before .before .args .s) (c .before .before .before .before .before .before .before .before .before .before .before .before .before .before .before .before .before .args .memory .now) (c .before .before .before .before .before .before .before .before .before .before .before .before .before .before .before .before .before .args .records .now) (c .before .before .before .before .before .obey .result .state) (c .before .before .before .before .before .obey .last .1 .1 .0) (c .before .before .before .before .before .before .before .before .before .before .before .before .before .loop .i + 1) k)
     (sym (c .count .ensures))
-    (run-again (c .before .before .before .before .before .before .before .before .before .before .before .before .before .loop .inv) (c .before .before .before .before .before .before .before .before .before .before .before .before .before .before .before .before .before .pre .1) (c .before .before .before .before .before .before .before .before .before .before .before .before .loop-test .taken) (c .before .before .before .before .before .before .before .read .ensures) (c .before .before .before .before .before .obey .ensures) (c .before .before .if1 .left) (c .before .before .before .before .before .obey .kept .1 .1 .0))
+    (run-again (c .before .before .before .before .before .before .before .before .before .before .before .before .before .loop .inv) (c .before .before .before .before .before .before .before .before .before .before .before .before .before .before .before .before .before .pre .1) (c .before .before .before .before .before .before .before .before .before .before .before .before .loop-test .taken) (c .before .before .before .before .before .before .before .read .ensures) (c .before .before .before .before .before .obey .ensures) (c .before .if1 .left) (c .before .before .before .before .before .obey .kept .1 .1 .0))
 
 same-length-2 : tie.Need-same-length-2 Inv-loop μ-loop
 same-length-2 c = c .before .loop .inv .long
