@@ -56,7 +56,7 @@ fn blocked(behind: Instr, times: usize) {
     drain_often(s, &program, times);
 }
 
-// None of the first drains applies a rule: each looks at all rules at all places. The others come to a million rules.
+// None of the first drains applies a rule: each looks at all 64 places. The others come to a million rules.
 fn main() {
     blocked(Instr::Op(Reg(3), 0, Reg(1), Reg(1)), 10000);
     blocked(Instr::Loadc(Reg(1), 6), 15625);
