@@ -2,21 +2,27 @@
 ghost use Rattle.io.specs.Counts.{Counts};
 use libc::STDOUT_FILENO;
 
-// How many of the file's bytes are at the start of the buffer. A file that can't be opened or read counts as one byte, which is
-// no whole record, so the report refuses it as it refuses any other length.
+// One byte is no whole record, so the report refuses such a file as it refuses any other length.
+fn unreadable(buf: &[u8]) -> usize
+    ensures { λ r. ⌜ Counts r (now (buf .entry)) ⌝ }
+{
+    io::count(1, buf)
+}
+
+// How many of the file's bytes are at the start of the buffer.
 fn load(path: &[u8], buf: &mut [u8]) -> usize
     ensures { λ r. ⌜ Counts r (now (buf .exit)) ⌝ }
 {
     let fd = os::open_read(path);
     if fd < 0 {
-        return io::count(1, buf);
+        return unreadable(buf);
     }
     let n = io::read_full(fd, buf);
     let mut next = [0u8; 1];
     let end = libc::read(fd, &mut next);
     libc::close(fd);
     if end < 0 {
-        return io::count(1, buf);
+        return unreadable(buf);
     }
     n
 }

@@ -1,22 +1,21 @@
 -- What the verdict on a program and its buffer makes of the answer.
 use mathlib.Core.Path.{_≡_, refl, sym, ap, ap₂, _∙_}
 use mathlib.Core.Logic.{_≢_}
-use Prim.Native.Nat.{ℕ, _*_, _/_, _%_, _<_, _≤_}
-use native.Mathlib.Nat.{zero-add}
+use Prim.Native.Nat.{ℕ, _*_, _/_, _<_, _≤_}
 use native.Mathlib.Omega.{arith}
 use mathlib.Core.Bool.{Bool, true, false, cond}
-use mathlib.Core.List.{List, _++_}
-use lib.Dec.{eqb, leb, ltb}
-use lib.ListN.{length, drop, getD}
-use lib.Seq.{sets-eq}
-use borrow.Author.Tests.{eq-eqb, ne-eqb, leb-true, ltb-false}
+use mathlib.Core.List.{List}
+use lib.Dec.{eqb, ltb}
+use lib.ListN.{length, getD}
+use borrow.Author.Tests.{eq-eqb, ne-eqb, ltb-false}
 use Rattle.records.specs.declared.Verdict.{Verdict}
-use Rattle.records.specs.Records.{records, isWhole}
 use Rattle.records.specs.Refusal.{badLength, badInstruction}
-use Rattle.records.specs.Scan.{verdict, leading, judged}
-use Rattle.records.proofs.Basics.{both}
+use Rattle.records.specs.Scan.{verdict}
+use Rattle.records.proofs.Leading.{scan-accepts}
 use Rattle.isa.specs.Program.{isInstr, scanOf}
+use Rattle.isa.proofs.Programs.{program-whole}
 use Rattle.text.specs.Text.{Put}
+use Rattle.text.proofs.Puts.{put-into}
 use Rattle.listing.specs.declared.Listed.{Listed}
 use Rattle.listing.specs.Listing.{listing, room, checked, answered, Lists}
 use Rattle.listing.proofs.Lengths.{listing-short}
@@ -24,11 +23,7 @@ use Rattle.listing.proofs.Lengths.{listing-short}
 -- ---- a program that was accepted, and the buffer
 scan-few : (p : List ℕ) → scanOf p .refusal ≡ 0 → length p ≤ 8192
 unfolding scanOf
-scan-few p e = go (isWhole p) refl e
-  where
-    go : (t : Bool) → isWhole p ≡ t → cond t (judged badInstruction (leading isInstr (records p)) (length p / 8)) (verdict badLength 0) .refusal ≡ 0 → length p ≤ 8192
-    go true f g = leb-true (length p) 8192 (both (eqb (length p % 8) 0) (leb (length p) 8192) f .1)
-    go false f g = absurd (omega arith)
+scan-few p e = program-whole p (scan-accepts badInstruction isInstr p (λ z. omega arith) e) .few
 
 module _ (p : List ℕ) (n : ℕ) (e : checked p n .refusal ≡ 0) where
   passed : (room * (length p / 8) ≤ n) × (scanOf p .refusal ≡ 0)
@@ -60,9 +55,9 @@ module _ (p out : List ℕ) {v : Verdict} (e : v ≡ checked p (length out)) whe
     lists-all {r} {n} small q g =
         let enough = accepted .0 in
         let short = listing-short p accepted-few small in
-        let all : n ≡ length (listing p) = omega (arith, q .next) in
+        let whole = put-into q (omega arith) in
         let test : eqb (checked p (length out) .refusal) 0 ≡ true = eq-eqb _ 0 (sym same-refusal ∙ z) in
         record {
-          answer = g ∙ ap₂ answered e all ∙ rw test refl;
-          output = rw test (q .holds ∙ sets-eq (listing p) out 0 (omega arith) ∙ ap (λ (k : ℕ). listing p ++ drop k out) (zero-add (length (listing p))));
+          answer = g ∙ ap₂ answered e (whole .0) ∙ rw test refl;
+          output = rw test (whole .1);
         }

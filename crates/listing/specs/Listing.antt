@@ -4,7 +4,7 @@ use Prim.Native.Nat.{ℕ, _*_, _/_}
 use mathlib.Core.Bool.{cond}
 use mathlib.Core.List.{List, _++_}
 use lib.Dec.{eqb, ltb}
-use lib.ListN.{length, drop}
+use lib.ListN.{length}
 use Rattle.records.specs.declared.Verdict.{Verdict}
 use Rattle.records.specs.Refusal.{badLength}
 use Rattle.records.specs.Scan.{verdict}
@@ -12,7 +12,7 @@ use Rattle.isa.specs.declared.Reg.{Reg}
 use Rattle.isa.specs.declared.Instr.{Instr}
 use Rattle.isa.specs.declared.Instr.the-variants.{Loadc, Loadpc, Op, Jz, Load, Store}
 use Rattle.isa.specs.Program.{program, scanOf}
-use Rattle.text.specs.Text.{ascii, decimal, numbered}
+use Rattle.text.specs.Text.{into, ascii, decimal, numbered}
 use Rattle.listing.specs.declared.Listed.{Listed}
 
 -- ---- a line
@@ -68,9 +68,9 @@ answered v n = record { refusal = v .refusal; number = v .number; written = n }
 abbrev pub listed : List ℕ → List ℕ → Listed
 listed p out = let v = checked p (length out) in answered v (ifAccepted v (length (listing p)) 0)
 
--- what the buffer holds then: bytes after the text stay
+-- what the buffer holds then
 abbrev pub listedInto : List ℕ → List ℕ → List ℕ
-listedInto p out = ifAccepted (checked p (length out)) (listing p ++ drop (length (listing p)) out) out
+listedInto p out = ifAccepted (checked p (length out)) (into out (listing p)) out
 
 pub record Lists (p out : List ℕ) (r : Listed) (out′ : List ℕ) : Type 0 where
   pub answer : r ≡ listed p out

@@ -2,13 +2,11 @@
 use mathlib.Core.Path.{_≡_, refl, sym, ap, subst, _∙_}
 use mathlib.Core.Logic.{_≢_}
 use Prim.Native.Nat.{ℕ, _%_, _<_, _≤_}
-use native.Mathlib.Nat.{zero-add}
 use native.Mathlib.Omega.{arith}
 use mathlib.Core.Bool.{Bool, true, false, cond, _&&_}
-use mathlib.Core.List.{List, _++_}
+use mathlib.Core.List.{List}
 use lib.Dec.{eqb, leb}
-use lib.ListN.{length, drop}
-use lib.Seq.{sets-eq}
+use lib.ListN.{length}
 use borrow.Author.Tests.{eq-eqb, ne-eqb, le-leb, lt-leb, leb-true}
 use Rattle.records.specs.Refusal.{badLength}
 use Rattle.records.specs.Records.{isWhole}
@@ -17,6 +15,7 @@ use Rattle.isa.specs.Program as Program
 use Rattle.cells.specs.Cells as Cells
 use Rattle.cells.specs.Cells.{cells}
 use Rattle.templates.specs.declared.State.{State}
+use Rattle.text.proofs.Puts.{put-into}
 use Rattle.report.specs.declared.Input.{Input}
 use Rattle.report.specs.Lines.{contentsText, Puts}
 use Rattle.report.specs.Report.{input, fit, isSchedule, unless, judged, inputText, runText, report, room, hasRoom, isFit, answer, Writes, Reports, Shows, Tells}
@@ -31,13 +30,9 @@ module _ (t out : List ℕ) where
   writes-none = record { answer = refl; output = refl; within = omega arith }
 
   pub writes-all : {n k : ℕ} {out′ : List ℕ} → Puts out 0 t k n out′ → k < length out → Writes true t out (answer 0 n) out′
-  writes-all {n} p h =
-      let all : n ≡ length t = omega (arith, p .text .next, p .most) in
-      record {
-        answer = ap (answer 0) all;
-        output = p .text .holds ∙ sets-eq t out 0 (omega (arith, p .text .next, p .most)) ∙ ap (λ (k : ℕ). t ++ drop k out) (zero-add (length t));
-        within = omega (arith, p .most);
-      }
+  writes-all p h =
+      let whole = put-into (p .text) (omega (arith, p .text .next, p .most)) in
+      record { answer = ap (answer 0) (whole .0); output = whole .1; within = omega (arith, p .most) }
 
 -- ---- the report
 module _ (p m s out : List ℕ) where

@@ -4,14 +4,14 @@ use Prim.Native.Nat.{ℕ, _*_, _%_, _≤_}
 use mathlib.Core.Bool.{Bool, cond, _&&_}
 use mathlib.Core.List.{List, _++_}
 use lib.Dec.{eqb, leb}
-use lib.ListN.{length, drop}
+use lib.ListN.{length}
 use Rattle.records.specs.declared.Verdict.{Verdict}
 use Rattle.records.specs.Refusal.{badLength}
 use Rattle.records.specs.Records.{isWhole}
 use Rattle.isa.specs.Program as Program
 use Rattle.cells.specs.Cells as Cells
 use Rattle.cells.specs.Cells.{cells}
-use Rattle.text.specs.Text.{ascii, decimal}
+use Rattle.text.specs.Text.{into, ascii, decimal}
 use Rattle.templates.specs.declared.State.{State}
 use Rattle.templates.specs.Layout.{start, stateOf}
 use Rattle.renaming.specs.declared.Ran.{Ran}
@@ -92,10 +92,6 @@ hasRoom out = leb room (length out)
 
 abbrev pub answer : ℕ → ℕ → Reported
 answer n written = record { refusal = n; written = written }
-
--- an output with the text at its start: bytes after the text stay
-abbrev pub into : List ℕ → List ℕ → List ℕ
-into out t = t ++ drop (length t) out
 
 -- the text is written, or nothing at all and the output is refused
 pub record Writes (good : Bool) (t out : List ℕ) (r : Reported) (out′ : List ℕ) : Type 0 where

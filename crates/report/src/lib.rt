@@ -1,5 +1,4 @@
 // The report of a run, as text in a lent buffer: what the run program prints.
-ghost use mathlib.Core.Path.{_≡_};
 ghost use Prim.Native.Nat.{_≤_};
 ghost use lib.ListN.{length};
 ghost use Rattle.report.specs.Report.{Tells, Reports, Shows};

@@ -1,9 +1,9 @@
 // The lines of a report, each put into a lent buffer behind the one before.
-ghost use Prim.Native.Nat.{_+_, _*_, _/_, _≤_, _<_};
+ghost use Prim.Native.Nat.{_+_, _≤_};
 ghost use lib.ListN.{length};
 ghost use Rattle.cells.specs.Cells.{cells};
 ghost use Rattle.text.specs.Text.{decimal, numbered};
-ghost use Rattle.report.specs.Lines.{ranText, drainedText, blockedText, endText, counterText, namedText, valueText, operandText, registerText, cellText, contentsText, Puts};
+ghost use Rattle.report.specs.Lines.{ranText, drainedText, blockedText, endText, counterText, valueText, operandText, registerText, cellText, contentsText, Puts};
 ghost use Rattle.report.specs.Report.{inputText};
 use crate::Input;
 use cells::Loaded;
@@ -110,7 +110,7 @@ fn put_counter(out: &mut [u8], at: usize, c: Counter) -> usize
     }
 }
 
-// A name of one byte, a number and what is there.
+// The name of a space, a number in it and the word there; nothing for undefined.
 fn put_value(out: &mut [u8], at: usize, name: &[u8], i: u32, v: Value) -> usize
     ensures { λ r. ⌜ Puts (now (out .entry)) at (valueText (now (name .entry)) i v) (length (now (name .entry)) + 22) r (now (out .exit)) ⌝ }
 {
@@ -176,7 +176,7 @@ fn put_cells(out: &mut [u8], at: usize, memory: &[u8]) -> usize
     }
 }
 
-// The counter, then registers and cells that aren't undefined.
+// The counter in at most 14 bytes, then registers and cells that aren't undefined, 23 bytes each at most.
 pub(crate) fn put_contents(out: &mut [u8], at: usize, s: State, memory: &[u8]) -> usize
     requires { ⌜ length (now memory) ≤ 8192 ⌝ }
     ensures { λ r. ⌜ Puts (now (out .entry)) at (contentsText s (cells (now (memory .entry)))) 24302 r (now (out .exit)) ⌝ }

@@ -1,13 +1,13 @@
 -- What a text leaves: nothing, one byte, a text with no room, and one text after another.
 use mathlib.Core.Path.{_≡_, refl, sym, ap, ap₂, subst, _∙_}
 use Prim.Native.Nat.{ℕ, suc, _+_, _-_, _<_, _≤_, min}
-use native.Mathlib.Nat.{add-zero}
+use native.Mathlib.Nat.{add-zero, zero-add}
 use native.Mathlib.Numerals.{add-one}
 use native.Mathlib.Omega.{arith, sub-cases}
 use mathlib.Core.List.{List, [], _∷_, _++_}
 use lib.ListN.{length, take, drop, getD, set, length-append, take-append-drop}
-use lib.Seq.{sets, length-sets, set-out, take-all, take-suc}
-use Rattle.text.specs.Text.{Put}
+use lib.Seq.{sets, length-sets, set-out, sets-eq, take-all, take-suc}
+use Rattle.text.specs.Text.{Put, into}
 
 -- ---- a run of stores
 module _ {A : Type 0} where
@@ -60,6 +60,11 @@ module _ {b : List ℕ} {at : ℕ} {t : List ℕ} {r : ℕ} {b′ : List ℕ} (p
             ∙ sets-next t u (sets b at t) at
             ∙ sym (sets-append t u b at);
       }
+
+-- ---- a text that has room, at the buffer's start
+pub put-into : {b t : List ℕ} {r : ℕ} {b′ : List ℕ} → Put b 0 t r b′ → length t ≤ length b → (r ≡ length t) × (b′ ≡ into b t)
+put-into {b} {t} p h =
+    (omega (arith, p .next), p .holds ∙ sets-eq t b 0 (omega arith) ∙ ap (λ (k : ℕ). t ++ drop k b) (zero-add (length t)))
 
 -- ---- a text byte by byte: its first i are written
 module _ {b : List ℕ} {at : ℕ} (t : List ℕ) (i : ℕ) {r : ℕ} {b′ : List ℕ} (p : Put b at (take i t) r b′) where

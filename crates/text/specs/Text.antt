@@ -6,7 +6,7 @@ use Prim.Native.String.{String, [] as []ˢ, _∷_ as _∷ˢ_}
 use mathlib.Core.Bool.{cond}
 use mathlib.Core.List.{List, [], _∷_, _++_, foldl}
 use lib.Dec.{ltb}
-use lib.ListN.{length}
+use lib.ListN.{length, drop}
 use lib.Seq.{sets}
 
 -- the bytes of a quoted text
@@ -18,6 +18,10 @@ ascii (c ∷ˢ s) = code c ∷ ascii s
 pub record Put (b : List ℕ) (at : ℕ) (t : List ℕ) (r : ℕ) (b′ : List ℕ) : Type 0 where
   pub next : r ≡ at + min (length t) (length b - at)
   pub holds : b′ ≡ sets b at t
+
+-- a buffer with the text at its start: bytes after the text stay
+abbrev pub into : List ℕ → List ℕ → List ℕ
+into b t = t ++ drop (length t) b
 
 -- the byte of a digit
 abbrev pub digit : ℕ → ℕ
