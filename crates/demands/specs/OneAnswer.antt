@@ -41,7 +41,7 @@ use Rattle.templates.specs.declared.Register.{Register}
 use Rattle.templates.specs.declared.State.{State}
 use Rattle.templates.specs.Templates.{waits, makes, fill, anyHolds, anyMakes, anyMemory, anyReg, fillRegs, contents, put}
 use Rattle.templates.specs.Templates as Templates
-use Rattle.templates.specs.Layout.{stateOf, mapFrom, removed}
+use Rattle.templates.specs.Layout.{stateOf, among, mapFrom, removed}
 use Rattle.templates.specs.Layout as Layout
 use Rattle.sound.specs.Sound as Sound
 use Rattle.renaming.specs.Entries.{Steps, Runs, Drains}
@@ -101,8 +101,8 @@ pub record OneAnswers : Type 0 where
   pub heldFrom : (ts : List Template) (n from : ℕ) (t : Tag) → OneAnswer (λ (r′ : Bool). r′ ≡ anyHolds t (drop from (take n ts)))
   pub produced : (ts : List Template) (n : ℕ) (t : Tag) → OneAnswer (λ (r′ : Bool). r′ ≡ anyMakes t (take n ts))
   pub memoryBefore : (ts : List Template) (n : ℕ) → OneAnswer (λ (r′ : Bool). r′ ≡ anyMemory (take n ts))
-  pub fillFrom : (ts : List Template) (from : ℕ) (t : Tag) (v : Value) → OneAnswer (λ (r′ : List Template). r′ ≡ mapFrom (Templates.fillTemplate t v) from ts)
-  pub without : (ts : List Template) (p : ℕ) → OneAnswer (λ (r′ : List Template). r′ ≡ removed p ts)
+  pub fillFrom : (ts : List Template) (n from : ℕ) (t : Tag) (v : Value) → OneAnswer (λ (r′ : List Template). r′ ≡ among n (mapFrom (Templates.fillTemplate t v) from) ts)
+  pub without : (ts : List Template) (n p : ℕ) → OneAnswer (λ (r′ : List Template). r′ ≡ among n (removed p) ts)
   pub heldByRegister : (rf : List Register) (t : Tag) → OneAnswer (λ (r′ : Bool). r′ ≡ anyReg t rf)
   pub fillRegisters : (rf : List Register) (t : Tag) (v : Value) → OneAnswer (λ (r′ : List Register). r′ ≡ fillRegs t v rf)
   pub readRegister : (rf : List Register) (r : Reg) → OneAnswer (λ (r′ : Operand). r′ ≡ contents rf r)

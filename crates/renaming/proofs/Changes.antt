@@ -1,5 +1,5 @@
 -- A change of the table at a template's place is the machine's change.
-use mathlib.Core.Path.{_≡_, refl, sym, ap, ap₂, _∙_}
+use mathlib.Core.Path.{_≡_, sym, ap, ap₂, _∙_}
 use Prim.Native.Nat.{ℕ, _+_, _-_, _<_}
 use native.Mathlib.Numerals.{add-one}
 use native.Mathlib.Omega.{arith}
@@ -15,7 +15,7 @@ use Rattle.templates.specs.declared.Register.{Register}
 use Rattle.templates.specs.declared.Counter.{Counter}
 use Rattle.templates.specs.declared.State.{State}
 use Rattle.templates.specs.Templates.{template, blank, fillTemplate, fillAll}
-use Rattle.templates.specs.Layout.{mach, machOf, stateOf, mapFrom, removed}
+use Rattle.templates.specs.Layout.{mach, machOf, stateOf, among, mapFrom, removed}
 use Rattle.templates.proofs.Places.{places, held-length, state-set, state-map, state-removed}
 use Rattle.renaming.specs.Answers.{before, behind, Stands}
 
@@ -44,11 +44,11 @@ module _ (s : State) (p : ℕ) (x : Template) (w : Work) (h : Stands s p x w) wh
     pub unchanged : places c rf (s .templates) (s .count) ≡ stateOf (mach c rf (before s p ++ template (x .address) w ∷ behind s p))
     unchanged = rw split (ap₂ (places c rf) (h .laid .whole) (sym (held-length s (h .laid))))
 
-    pub taken-out : places c rf (removed p (s .templates)) (s .count - 1) ≡ stateOf (mach c rf (before s p ++ behind s p))
+    pub taken-out : places c rf (among (s .count) (removed p) (s .templates)) (s .count - 1) ≡ stateOf (mach c rf (before s p ++ behind s p))
     taken-out = state-removed s (h .laid) c rf p (h .place)
 
 module _ (s : State) (p : ℕ) (x : Template) (t : Tag) (v : Value) (h : Stands s p x (Done t v)) (c : Counter) (rf : List Register) where
-  pub filled : places c rf (mapFrom (fillTemplate t v) (p + 1) (s .templates)) (s .count)
+  pub filled : places c rf (among (s .count) (mapFrom (fillTemplate t v) (p + 1)) (s .templates)) (s .count)
       ≡ stateOf (mach c rf (before s p ++ template (x .address) (Done t v) ∷ fillAll t v (behind s p)))
   filled =
       let held = machOf s .held in
@@ -57,4 +57,4 @@ module _ (s : State) (p : ℕ) (x : Template) (t : Tag) (v : Value) (h : Stands 
       (ap (λ ts. ts ++ fillAll t v (behind s p)) (take-suc held p blank (inside s p x (Done t v) h))
       ∙ append-snoc (before s p) (getD held p blank) (fillAll t v (behind s p))
       ∙ ap (λ (y : Template). before s p ++ y ∷ fillAll t v (behind s p)) (standing s p x (Done t v) h)) in
-      state-map s (h .laid) c rf (fillTemplate t v) refl (p + 1) ∙ ap (λ ts. stateOf (mach c rf ts)) same
+      state-map s (h .laid) c rf (fillTemplate t v) (p + 1) ∙ ap (λ ts. stateOf (mach c rf ts)) same

@@ -3,20 +3,20 @@ use mathlib.Core.Path.{_≡_, refl, sym, ap, _∙_}
 use mathlib.Core.Logic.{_≢_}
 use Prim.Native.Nat.{ℕ, zero, suc, _+_, _-_, _/_, _<_, _≤_}
 use native.Mathlib.Decide.{decLt}
+use native.Mathlib.Numerals.{add-one}
 use native.Mathlib.Omega.{arith}
 use mathlib.Core.Bool.{Bool, true, false, cond, _||_}
 use mathlib.Core.List.{List, [], _∷_}
-use lib.ListN.{length, take, drop, getElem?}
+use lib.ListN.{length, take, drop, getD, getElem?}
 use lib.Seq.{drop-cons}
 use borrow.Author.Tests.{lt-ltb, le-ltb}
 use Rattle.records.specs.declared.Verdict.{Verdict}
-use Rattle.records.specs.Refusal.{stillHeld, outside}
+use Rattle.records.specs.Refusal.{noTemplate, stillHeld, outside}
 use Rattle.records.specs.Scan.{accepted}
 use Rattle.records.specs.Try.{Try, got, fails}
 use Rattle.value.specs.declared.Value.{Value}
 use Rattle.value.specs.declared.Value.the-variants.{Undefined, Word}
 use Rattle.isa.specs.declared.Tag.{Tag}
-use Rattle.isa.specs.Program as Program
 use Rattle.cells.specs.Cells.{cells, image, Formed, inside, loadFrom}
 use Rattle.kernel.specs.Kernel.{readAt, writeAt, number}
 use Rattle.kernel.proofs.Checking.{refuses, works}
@@ -27,20 +27,23 @@ use Rattle.templates.specs.declared.Work.the-variants.{Done, Store}
 use Rattle.templates.specs.declared.Template.{Template}
 use Rattle.templates.specs.declared.State.{State}
 use Rattle.templates.specs.Templates.{template, blank, anyHolds, anyReg}
-use Rattle.templates.specs.Layout.{machOf}
+use Rattle.templates.specs.Layout.{Mach, machOf, Laid}
 use Rattle.templates.proofs.Places.{held-length}
 use Rattle.sound.proofs.Decides.{sound-said}
+use Rattle.renaming.specs.declared.Rule.{Rule}
 use Rattle.renaming.specs.declared.Rule.the-variants as Rule
 use Rattle.renaming.specs.declared.Answer.{Answer}
 use Rattle.renaming.specs.declared.Settled.{Settled}
 use Rattle.renaming.specs.Rules as Rules
-use Rattle.renaming.specs.Rules.{Step, refused, storing}
+use Rattle.renaming.specs.Rules.{Step, refused, apply, storing}
 use Rattle.renaming.specs.Answers.{answerOf, before, behind, Stands, at, Fit, Acts}
-use Rattle.renaming.specs.Drain.{Drained, further, drainFrom, drain, oldest, asks, refusal, blocking, blockedAt, retireRefusal, storeRefusal}
+use Rattle.renaming.specs.Drain.{first, rules, firstOf, seek, oldest, Drained, further, drainFrom, drain, due, asks, refusal, blocking, blockedAt, retireRefusal, storeRefusal}
 use Rattle.renaming.specs.Entries.{entered, settled, drained, drainedMemory, Drains, Empties}
 use Rattle.renaming.proofs.Changes.{standing}
 use Rattle.renaming.proofs.Applied.{apply-at}
-use Rattle.renaming.proofs.Looping.{oldest-keeps-sound, oldest-numbered}
+use Rattle.renaming.proofs.Keeping.{apply-keeps-sound}
+use Rattle.renaming.proofs.Numbered.{Numbered, apply-numbered}
+use Rattle.renaming.proofs.Due.{due-first}
 use Rattle.renaming.proofs.Fitting.{acts-accepted, acts-refused, acts-laid}
 
 -- ---- what blocks
@@ -113,56 +116,118 @@ store-blocked s x (Known u) (Known v) m = sym (numbers-alike m u v) ∙ sym (sto
 
 -- ---- the loop of a drain
 
+-- after n rules a search has come to t: the drain from there on, with a rule of this many at most
+abbrev turn : ℕ → ℕ → Mach → List Value → Step → Drained
+turn zero n σ m t = record { rules = n; machine = σ; memory = m }
+turn (suc fuel) n σ m t = further (λ σ′ m′. drainFrom fuel (n + 1) σ′ m′) (record { rules = n; machine = σ; memory = m }) t
+
+turn-first : (fuel n : ℕ) (σ : Mach) (m : List Value) → drainFrom fuel n σ m ≡ turn fuel n σ m (oldest σ m)
+unfolding drainFrom
+turn-first zero n σ m = refl
+turn-first (suc fuel) n σ m = refl
+
+-- the places from p on
+abbrev from : State → ℕ → List Value → Step
+from s p m = seek (s .count - p) p (machOf s) m
+
+from-first : (s : State) → Laid s → (m : List Value) → oldest (machOf s) m ≡ from s 0 m
+unfolding oldest
+from-first s l m = let all : length (machOf s .held) ≡ s .count - 0 = omega (arith, held-length s l) in ap (λ (k : ℕ). seek k 0 (machOf s) m) all
+
 -- the drain from here on is the whole drain
-pub record Left (p : List ℕ) (s₀ : State) (b₀ : List ℕ) (s : State) (b : List ℕ) (n : ℕ) : Type 0 where
-  pub rest : drainFrom (256 - n) n (machOf s) (cells b) ≡ drain (machOf s₀) (cells b₀)
+pub record Left (p : List ℕ) (s₀ : State) (b₀ : List ℕ) (s : State) (b : List ℕ) (n place : ℕ) : Type 0 where
+  pub rest : turn (256 - n) n (machOf s) (cells b) (from s place (cells b)) ≡ drain (machOf s₀) (cells b₀)
   pub fit : Fit p s
   pub below : n ≤ 256
+  pub within : place ≤ s .count
   pub long : length b ≡ length b₀
   pub formed : Formed b₀ → Formed b
 
-pub drain-begins : (p : List ℕ) (s : State) (b : List ℕ) → Fit p s → Left p s b s b 0
-drain-begins p s b f = record { rest = refl; fit = f; below = omega arith; long = refl; formed = λ h. h }
+pub drain-begins : (p : List ℕ) (s : State) (b : List ℕ) → Fit p s → Left p s b s b 0 0
+drain-begins p s b f =
+    record {
+      rest = ap (turn 256 0 (machOf s) (cells b)) (sym (from-first s (f .laid) (cells b))) ∙ sym (turn-first 256 0 (machOf s) (cells b));
+      fit = f;
+      below = omega arith;
+      within = omega arith;
+      long = refl;
+      formed = λ h. h;
+    }
 
-module _ {p : List ℕ} {s₀ : State} {b₀ : List ℕ} {s : State} {b : List ℕ} {n : ℕ} (l : Left p s₀ b₀ s b n) where
-  -- where the loop is left, with an answer for the machine as it is
-  ends : (b′ : List ℕ) → cells b′ ≡ cells b → (Formed b → Formed b′) → record { rules = n; machine = machOf s; memory = cells b } ≡ drain (machOf s₀) (cells b₀)
-      → {r : Settled} → r ≡ settled (record { rules = n; machine = machOf s; memory = cells b′ }) → Empties s₀ b₀ r b′
-  ends b′ same form e a =
-      let here : record { rules = n; machine = machOf s; memory = cells b′ } ≡ drain (machOf s₀) (cells b₀) =
-      ap (λ (m : List Value). record { rules = n; machine = machOf s; memory = m }) same ∙ e in
-      record { answer = a ∙ ap settled here; holds = ap (λ (d : Drained). d .memory) here; formed = λ f. form (l .formed f) }
+module _ {p : List ℕ} {s₀ : State} {b₀ : List ℕ} {s : State} {b : List ℕ} {n place : ℕ} (l : Left p s₀ b₀ s b n place) where
+  -- where the loop is left, the machine is as it is
+  ends : record { rules = n; machine = machOf s; memory = cells b } ≡ drain (machOf s₀) (cells b₀)
+      → {r : Settled} → r ≡ settled (record { rules = n; machine = machOf s; memory = cells b }) → Empties s₀ b₀ r b
+  ends e a = record { answer = a ∙ ap settled e; holds = ap (λ (d : Drained). d .memory) e; formed = l .formed }
 
-  module _ (scanned : Program.scanOf p ≡ accepted) (h : n < 256) {r : Answer} {b′ : List ℕ} (a : Acts s (oldest (machOf s) (cells b)) b r b′) where
-    turn : drainFrom (256 - n) n (machOf s) (cells b)
-        ≡ further (λ σ m. drainFrom (256 - (n + 1)) (n + 1) σ m) (record { rules = n; machine = machOf s; memory = cells b }) (oldest (machOf s) (cells b))
-    unfolding drainFrom
-    turn = let more : 256 - n ≡ suc (256 - (n + 1)) = omega arith in ap (λ (k : ℕ). drainFrom k n (machOf s) (cells b)) more
+  pub drain-spent : 256 ≤ n → {r : Settled} → r ≡ settled (record { rules = n; machine = machOf s; memory = cells b }) → Empties s₀ b₀ r b
+  drain-spent h =
+      let none : 0 ≡ 256 - n = omega arith in
+      ends (ap (λ (k : ℕ). turn k n (machOf s) (cells b) (from s place (cells b))) none ∙ l .rest)
 
-    pub drain-again : r .refusal ≡ 0 → length b′ ≡ length b → Left p s₀ b₀ (r .state) b′ (n + 1)
-    drain-again z long =
-        let k = length p / 8 in
-        let sound = sound-said k (machOf s) .holds (l .fit .sound) in
-        let t = oldest (machOf s) (cells b) in
-        let laid = acts-laid t k (oldest-numbered (machOf s) (cells b)) (oldest-keeps-sound k (machOf s) (cells b) sound) a z in
-        record {
-          rest = sym (turn ∙ ap (further _ _) (acts-accepted t (oldest-numbered (machOf s) (cells b)) a z)) ∙ l .rest;
-          fit = record { laid = laid .0; sound = sound-said k (machOf (r .state)) .says (laid .1) };
-          below = omega arith;
-          long = long ∙ l .long;
-          formed = λ f. a .formed (l .formed f);
-        }
+  module _ (h : n < 256) where
+    another : (t : Step) → turn (256 - n) n (machOf s) (cells b) t
+        ≡ further (λ σ m. drainFrom (256 - (n + 1)) (n + 1) σ m) (record { rules = n; machine = machOf s; memory = cells b }) t
+    another t = let more : 256 - n ≡ suc (256 - (n + 1)) = omega arith in ap (λ (k : ℕ). turn k n (machOf s) (cells b) t) more
 
-    pub drain-stops : r .refusal ≢ 0 → {q : Settled} → q ≡ settled (record { rules = n; machine = machOf s; memory = cells b′ }) → Empties s₀ b₀ q b′
-    drain-stops z e =
-        let no = acts-refused (oldest (machOf s) (cells b)) a z in
-        ends b′ (no .1) (a .formed) (sym (turn ∙ ap (further _ _) (no .0)) ∙ l .rest) e
+    pub drain-stops : s .count ≤ place → {r : Settled} → r ≡ settled (record { rules = n; machine = machOf s; memory = cells b }) → Empties s₀ b₀ r b
+    drain-stops k =
+        let none : 0 ≡ s .count - place = omega arith in
+        ends (sym (another (refused noTemplate)) ∙ ap (λ (i : ℕ). turn (256 - n) n (machOf s) (cells b) (seek i place (machOf s) (cells b))) none ∙ l .rest)
 
-  pub drain-spent : 256 ≤ n → {q : Settled} → q ≡ settled (record { rules = n; machine = machOf s; memory = cells b }) → Empties s₀ b₀ q b
-  unfolding drainFrom
-  drain-spent h e =
-      let none : 256 - n ≡ 0 = omega arith in
-      ends b refl (λ f. f) (ap (λ (k : ℕ). drainFrom k n (machOf s) (cells b)) (sym none) ∙ l .rest) e
+    module _ (k : place < s .count) {x : Template} (e : x ≡ getD (s .templates) place blank) {rule : Rule} (d : rule ≡ due (s .registers) (behind s place) (x .work))
+        {r : Answer} {b′ : List ℕ} (a : Acts s (apply rule place (machOf s) (cells b)) b r b′) where
+      abbrev tried : Step
+      tried = apply rule place (machOf s) (cells b)
+
+      numbered : Numbered tried
+      numbered = apply-numbered rule place (machOf s) (cells b)
+
+      here : from s place (cells b) ≡ first tried (from s (place + 1) (cells b))
+      here =
+          let more : s .count - place ≡ suc (s .count - (place + 1)) = omega arith in
+          let later = from s (place + 1) (cells b) in
+          ap (λ (i : ℕ). seek i place (machOf s) (cells b)) more
+          ∙ ap (λ (i : ℕ). first (firstOf rules place (machOf s) (cells b)) (seek (s .count - (place + 1)) i (machOf s) (cells b))) (sym (add-one place))
+          ∙ due-first s place (cells b) x later (x .work) (record { laid = l .fit .laid; place = k; here = e; does = refl })
+          ∙ ap (λ (q : Rule). first (apply q place (machOf s) (cells b)) later) (sym d)
+
+      pub drain-again : r .refusal ≡ 0 → length b′ ≡ length b → Left p s₀ b₀ (r .state) b′ (n + 1) 0
+      drain-again z long =
+          let i = length p / 8 in
+          let sound = sound-said i (machOf s) .holds (l .fit .sound) in
+          let laid = acts-laid tried i numbered (apply-keeps-sound i rule place (machOf s) (cells b) sound) a z in
+          let next : Step = Rules.accepted (machOf (r .state)) (cells b′) in
+          let found : from s place (cells b) ≡ next = here ∙ ap (λ (t : Step). first t (from s (place + 1) (cells b))) (acts-accepted tried numbered a z) in
+          record {
+            rest =
+                ap (turn (256 - (n + 1)) (n + 1) (machOf (r .state)) (cells b′)) (sym (from-first (r .state) (laid .0) (cells b′)))
+                ∙ sym (turn-first (256 - (n + 1)) (n + 1) (machOf (r .state)) (cells b′))
+                ∙ sym (another next)
+                ∙ ap (turn (256 - n) n (machOf s) (cells b)) (sym found)
+                ∙ l .rest;
+            fit = record { laid = laid .0; sound = sound-said i (machOf (r .state)) .says (laid .1) };
+            below = omega arith;
+            within = omega arith;
+            long = long ∙ l .long;
+            formed = λ f. a .formed (l .formed f);
+          }
+
+      pub drain-on : r .refusal ≢ 0 → length b′ ≡ length b → Left p s₀ b₀ s b′ n (place + 1)
+      drain-on z long =
+          let no = acts-refused tried a z in
+          let left : from s place (cells b) ≡ from s (place + 1) (cells b) = here ∙ ap (λ (t : Step). first t (from s (place + 1) (cells b))) (no .0) in
+          record {
+            rest =
+                ap (λ (m : List Value). turn (256 - n) n (machOf s) m (from s (place + 1) m)) (no .1)
+                ∙ ap (turn (256 - n) n (machOf s) (cells b)) (sym left)
+                ∙ l .rest;
+            fit = l .fit;
+            below = l .below;
+            within = omega arith;
+            long = long ∙ l .long;
+            formed = λ f. a .formed (l .formed f);
+          }
 
 -- ---- the entry
 

@@ -14,5 +14,5 @@ pub mod Numbered
 pub mod Fitting
 pub mod Looping
 pub mod Going
-pub mod Trying
+pub mod Due
 pub mod Emptying

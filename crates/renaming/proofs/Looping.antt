@@ -1,9 +1,7 @@
--- What every rule keeps, the drain's next rule keeps; so a run and a drain keep a sound machine sound.
+-- The drain's next rule keeps a sound machine sound, as every rule does; and so do a run and a drain.
 use Prim.Native.Nat.{ℕ, zero, suc, _+_}
-use native.Mathlib.Omega.{arith}
 use mathlib.Core.List.{List, [], _∷_}
 use lib.ListN.{length}
-use Rattle.records.specs.Refusal.{noTemplate}
 use Rattle.value.specs.declared.Value.{Value}
 use Rattle.isa.specs.declared.Instr.{Instr}
 use Rattle.templates.specs.Layout.{Mach}
@@ -16,32 +14,27 @@ use Rattle.renaming.specs.Run.{counted, proceed, runFrom}
 use Rattle.renaming.specs.Drain.{first, rules, firstOf, seek, oldest, further, drainFrom}
 use Rattle.isa.proofs.Formed.{AllFormed}
 use Rattle.renaming.proofs.Keeping.{StaysSound, apply-keeps-sound, obey-keeps-sound}
-use Rattle.renaming.proofs.Numbered.{Numbered, apply-numbered}
 
 -- ---- the drain's next rule
 
-module _ (P : Step → Type 0) (none : P (refused noTemplate)) (σ : Mach) (m : List Value) (h : (r : Rule) (place : ℕ) → P (apply r place σ m)) where
-  first-on : (a b : Step) → P a → P b → P (first a b)
-  first-on (accepted τ l) b p q = p
-  first-on (refused n) b p q = q
+module _ (k : ℕ) (σ : Mach) (m : List Value) (s : Sound k σ) where
+  first-keeps-sound : (a b : Step) → StaysSound k a → StaysSound k b → StaysSound k (first a b)
+  first-keeps-sound (accepted τ l) b p q = p
+  first-keeps-sound (refused n) b p q = q
 
-  pub first-of-on : (rs : List Rule) (place : ℕ) → P (firstOf rs place σ m)
-  first-of-on [] place = none
-  first-of-on (r ∷ rs) place = first-on (apply r place σ m) (firstOf rs place σ m) (h r place) (first-of-on rs place)
+  first-of-keeps-sound : (rs : List Rule) (place : ℕ) → StaysSound k (firstOf rs place σ m)
+  first-of-keeps-sound [] place = tt
+  first-of-keeps-sound (r ∷ rs) place =
+      first-keeps-sound (apply r place σ m) (firstOf rs place σ m) (apply-keeps-sound k r place σ m s) (first-of-keeps-sound rs place)
 
-  seek-on : (n place : ℕ) → P (seek n place σ m)
-  seek-on zero place = none
-  seek-on (suc n) place = first-on (firstOf rules place σ m) (seek n (suc place) σ m) (first-of-on rules place) (seek-on n (suc place))
+  seek-keeps-sound : (n place : ℕ) → StaysSound k (seek n place σ m)
+  seek-keeps-sound zero place = tt
+  seek-keeps-sound (suc n) place =
+      first-keeps-sound (firstOf rules place σ m) (seek n (suc place) σ m) (first-of-keeps-sound rules place) (seek-keeps-sound n (suc place))
 
-  pub oldest-on : P (oldest σ m)
+  oldest-keeps-sound : StaysSound k (oldest σ m)
   unfolding oldest
-  oldest-on = seek-on (length (σ .held)) 0
-
-pub oldest-keeps-sound : (k : ℕ) (σ : Mach) (m : List Value) → Sound k σ → StaysSound k (oldest σ m)
-oldest-keeps-sound k σ m s = oldest-on (StaysSound k) tt σ m (λ r place. apply-keeps-sound k r place σ m s)
-
-pub oldest-numbered : (σ : Mach) (m : List Value) → Numbered (oldest σ m)
-oldest-numbered σ m = oldest-on Numbered (λ e. omega arith) σ m (λ r place. apply-numbered r place σ m)
+  oldest-keeps-sound = seek-keeps-sound (length (σ .held)) 0
 
 -- ---- a drain and a run
 

@@ -6,6 +6,7 @@ use lib.Dec.{eqb}
 use lib.ListN.{length}
 use Rattle.records.specs.Refusal.{noTemplate, needsTag, stillHeld}
 use Rattle.value.specs.declared.Value.{Value}
+use Rattle.value.specs.declared.Value.the-variants.{Undefined, Word}
 use Rattle.isa.specs.declared.InstrAddr.{InstrAddr}
 use Rattle.isa.specs.declared.Tag.{Tag}
 use Rattle.kernel.specs.Kernel.{readAt, number}
@@ -95,32 +96,21 @@ blockedAt (x ∷ xs) = x .address
 
 -- ---- what the code's leaves answer
 
--- the rule of number j + 2
-abbrev pub ruleAt : ℕ → Rule
-ruleAt j =
-    cond (eqb j 0) Rule.Operate
-    (cond (eqb j 1) Rule.Forward
-    (cond (eqb j 2) Rule.Commit
-    (cond (eqb j 3) Rule.Retire
-    (cond (eqb j 4) Rule.Load
-    (cond (eqb j 5) Rule.Store
-    (cond (eqb j 6) Rule.Jump
-    Rule.NoJump))))))
+-- the lowest rule that may be allowed at a template, by the registers and the templates behind it
+abbrev pub dueValue : List Register → List Template → Tag → Rule
+dueValue rf post t = cond (anyHolds t post) Rule.Forward (cond (anyReg t rf) Rule.Commit Rule.Retire)
 
--- the rules for a template, by those numbers: the first, and the number behind the last
-abbrev pub firstRule : Work → ℕ
-firstRule (Done t v) = 1
-firstRule (Op t n x y) = 0
-firstRule (Jz x y) = 6
-firstRule (Load t x) = 4
-firstRule (Store x y) = 5
+abbrev pub dueJump : Operand → Rule
+dueJump (Known Undefined) = Rule.Jump
+dueJump (Known (Word w)) = cond (eqb w 0) Rule.Jump Rule.NoJump
+dueJump (Waits t) = Rule.Jump
 
-abbrev pub pastRule : Work → ℕ
-pastRule (Done t v) = 4
-pastRule (Op t n x y) = 1
-pastRule (Jz x y) = 8
-pastRule (Load t x) = 5
-pastRule (Store x y) = 6
+abbrev pub due : List Register → List Template → Work → Rule
+due rf post (Done t v) = dueValue rf post t
+due rf post (Op t n x y) = Rule.Operate
+due rf post (Jz x y) = dueJump x
+due rf post (Load t x) = Rule.Load
+due rf post (Store x y) = Rule.Store
 
 -- why a value template doesn't retire, by its tag, the registers and the templates behind it
 abbrev pub retireRefusal : Tag → List Register → List Template → ℕ

@@ -1,5 +1,4 @@
 // One rule at one place: the template is found, then its kind, then the rule.
-ghost use mathlib.Core.Path.{_≡_};
 ghost use Rattle.cells.specs.Cells.{cells};
 ghost use Rattle.templates.specs.Layout.{machOf, Laid};
 ghost use Rattle.renaming.specs.Rules.{apply};

@@ -53,7 +53,8 @@ pub(crate) fn fill_behind(s: State, p: usize, x: Template, t: Tag, v: Value) -> 
     ensures { λ r. ⌜ r ≡ done (holding (machOf s) (before s p ++ template (x .address) (Work.Done t v) ∷ fillAll t v (behind s p))) ⌝ }
 {
     let ts = s.templates;
-    let filled = table::fill_from(ts, p + 1, t, v);
+    let n = s.count;
+    let filled = table::fill_from(ts, n, p + 1, t, v);
     let mut next = s;
     next.templates = filled;
     accepted(next)
@@ -78,7 +79,7 @@ pub(crate) fn remove(s: State, p: usize, x: Template, was: Work) -> Answer
 {
     let ts = s.templates;
     let n = s.count;
-    let left = table::without(ts, p);
+    let left = table::without(ts, n, p);
     let mut next = s;
     next.templates = left;
     next.count = n - 1;
@@ -93,7 +94,7 @@ pub(crate) fn go_to(s: State, p: usize, x: Template, was: Work, ia: InstrAddr) -
     let ts = s.templates;
     let rf = s.registers;
     let n = s.count;
-    let left = table::without(ts, p);
+    let left = table::without(ts, n, p);
     let next = State {
         counter: Counter::At(ia),
         registers: rf,

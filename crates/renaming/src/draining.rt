@@ -5,14 +5,12 @@ ghost use Rattle.records.specs.Scan.{accepted};
 ghost use Rattle.isa.specs.Program.{scanOf};
 ghost use Rattle.cells.specs.Cells.{cells};
 ghost use Rattle.templates.specs.Layout.{machOf, Laid};
-ghost use Rattle.renaming.specs.Drain.{ruleAt, firstRule, pastRule, rules, firstOf, oldest, retireRefusal, storeRefusal, blocking, blockedAt};
-ghost use Rattle.renaming.specs.Answers.{behind, Fit, Within, Acts};
+ghost use Rattle.renaming.specs.Drain.{due, dueValue, dueJump, retireRefusal, storeRefusal, blocking, blockedAt};
+ghost use Rattle.renaming.specs.Answers.{behind, Fit, Within};
 ghost use Rattle.renaming.specs.Entries.{settled, Empties, Drains};
-use crate::Answer;
 use crate::Rule;
 use crate::Settled;
 use crate::apply;
-use crate::change;
 use crate::entry;
 use crate::memory;
 use crate::waiting;
@@ -24,83 +22,53 @@ use templates::Operand;
 use templates::State;
 use templates::Work;
 use templates::table;
+use value::Value;
 
-// The rules but issue by their numbers, 2 to 9.
-fn rule_at(j: usize) -> Rule
-    ensures { λ r. ⌜ r ≡ ruleAt j ⌝ }
-{
-    match j {
-        0 => Rule::Operate,
-        1 => Rule::Forward,
-        2 => Rule::Commit,
-        3 => Rule::Retire,
-        4 => Rule::Load,
-        5 => Rule::Store,
-        6 => Rule::Jump,
-        _ => Rule::NoJump,
-    }
-}
-
-// The rules for a template, by those numbers: the first.
-fn first_rule(w: Work) -> usize
-    ensures { λ r. ⌜ r ≡ firstRule w ⌝ }
+// The lowest rule that may be allowed at a template; of a value template by who holds its tag.
+fn due(s: State, p: usize, w: Work) -> Rule
+    requires { ⌜ p < 64 ⌝ }
+    ensures { λ r. ⌜ r ≡ due (s .registers) (behind s p) w ⌝ }
 {
     match w {
-        Work::Done(_, _) => 1,
-        Work::Op(_, _, _, _) => 0,
-        Work::Jz(_, _) => 6,
-        Work::Load(_, _) => 4,
-        Work::Store(_, _) => 5,
+        Work::Done(t, _) => due_value(s, p, t),
+        Work::Op(_, _, _, _) => Rule::Operate,
+        Work::Jz(a, _) => due_jump(a),
+        Work::Load(_, _) => Rule::Load,
+        Work::Store(_, _) => Rule::Store,
     }
 }
 
-// The number behind the last; no rule from there on is for the template.
-fn past_rule(w: Work) -> usize
-    ensures { λ r. ⌜ r ≡ pastRule w ⌝ }
+fn due_value(s: State, p: usize, t: Tag) -> Rule
+    requires { ⌜ p < 64 ⌝ }
+    ensures { λ r. ⌜ r ≡ dueValue (s .registers) (behind s p) t ⌝ }
 {
-    match w {
-        Work::Done(_, _) => 4,
-        Work::Op(_, _, _, _) => 1,
-        Work::Jz(_, _) => 8,
-        Work::Load(_, _) => 5,
-        Work::Store(_, _) => 6,
-    }
-}
-
-// The lowest rule that is allowed at a template's place; those for other kinds are not tried.
-fn first_at(s: State, p: usize, memory: &mut [u8]) -> Answer
-    requires { ⌜ Laid s × Within s × (p < s .count) ⌝ }
-    ensures { λ r. ⌜ Acts s (firstOf rules p (machOf s) (cells (now (memory .entry)))) (now (memory .entry)) r (now (memory .exit)) ⌝ }
-{
-    let x = s.templates[p];
-    let w = x.work;
-    let end = past_rule(w);
-    let mut j = first_rule(w);
-    while j < end {
-        let answer = apply::apply(s, rule_at(j), p, memory);
-        if answer.refusal == 0 {
-            return answer;
-        }
-        j += 1;
-    }
-    change::refused(s, refusal::NO_TEMPLATE)
-}
-
-// The lowest place with an allowed rule, there the lowest rule.
-fn oldest(s: State, memory: &mut [u8]) -> Answer
-    requires { ⌜ Laid s × Within s ⌝ }
-    ensures { λ r. ⌜ Acts s (oldest (machOf s) (cells (now (memory .entry)))) (now (memory .entry)) r (now (memory .exit)) ⌝ }
-{
+    let ts = s.templates;
+    let rf = s.registers;
     let n = s.count;
-    let mut p: usize = 0;
-    while p < n {
-        let answer = first_at(s, p, memory);
-        if answer.refusal == 0 {
-            return answer;
-        }
-        p += 1;
+    if table::held_from(ts, n, p + 1, t) {
+        return Rule::Forward;
     }
-    change::refused(s, refusal::NO_TEMPLATE)
+    if table::held_by_register(rf, t) {
+        return Rule::Commit;
+    }
+    Rule::Retire
+}
+
+fn due_jump(a: Operand) -> Rule
+    ensures { λ r. ⌜ r ≡ dueJump a ⌝ }
+{
+    match a {
+        Operand::Known(v) => match v {
+            Value::Undefined => Rule::Jump,
+            Value::Word(w) => {
+                if w != 0 {
+                    return Rule::NoJump;
+                }
+                Rule::Jump
+            }
+        },
+        Operand::Waits(_) => Rule::Jump,
+    }
 }
 
 // Why a Store that nothing is ahead of doesn't go; nothing is written.
@@ -180,20 +148,30 @@ fn settle(s: State, rules: usize, memory: &[u8]) -> Settled
     }
 }
 
-// The drain of a state that was checked; four rules for each of 64 templates are enough.
+// The drain of a state that was checked: the oldest template first, and after each rule from the front again. Four rules for
+// each of 64 templates are enough.
 fn empty(s: State, program: &[u8], memory: &mut [u8]) -> Settled
     requires { ⌜ Fit (now program) s × (scanOf (now program) ≡ accepted) ⌝ }
     ensures { λ r. ⌜ Empties s (now (memory .entry)) r (now (memory .exit)) ⌝ }
 {
     let mut state = s;
     let mut rules: usize = 0;
+    let mut p: usize = 0;
     while rules < 256 {
-        let answer = oldest(state, memory);
-        if answer.refusal != 0 {
+        if p >= state.count {
             return settle(state, rules, &memory[..]);
         }
-        state = answer.state;
-        rules += 1;
+        let x = state.templates[p];
+        let w = x.work;
+        let rule = due(state, p, w);
+        let answer = apply::apply(state, rule, p, memory);
+        if answer.refusal == 0 {
+            state = answer.state;
+            rules += 1;
+            p = 0;
+        } else {
+            p += 1;
+        }
     }
     settle(state, rules, &memory[..])
 }

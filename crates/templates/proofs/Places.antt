@@ -1,17 +1,16 @@
 -- The 64 places and the machine say each other, and a change of the places is a change of the machine.
 use mathlib.Core.Path.{_≡_, refl, sym, ap, ap₂, _∙_}
-use Prim.Native.Nat.{ℕ, zero, suc, _+_, _-_, _≤_, _<_}
-use native.Mathlib.Numerals.{add-one}
+use Prim.Native.Nat.{ℕ, suc, _+_, _-_, _≤_, _<_}
 use native.Mathlib.Omega.{arith}
 use mathlib.Core.List.{List, [], _∷_, _++_, append-assoc}
-use lib.ListN.{length, set, take, drop, replicate, length-append, length-take, length-drop, length-set, length-map, length-replicate, replicate-append-replicate, take-append-drop}
-use lib.Seq.{length-take-le, take-append-seam, take-append-le, drop-append-le, set-append-left, set-append-seam}
+use lib.ListN.{length, set, take, drop, replicate, length-append, length-take, length-drop, length-set, length-map, length-replicate, take-append-drop}
+use lib.Seq.{length-take-le, take-append-seam, drop-append-seam, set-append-left, set-append-seam}
 use Rattle.templates.specs.declared.Counter.{Counter}
 use Rattle.templates.specs.declared.Template.{Template}
 use Rattle.templates.specs.declared.Register.{Register}
 use Rattle.templates.specs.declared.State.{State}
 use Rattle.templates.specs.Templates.{blank}
-use Rattle.templates.specs.Layout.{capacity, Mach, mach, lay, machOf, stateOf, Laid, mapFrom, removeAt, removed}
+use Rattle.templates.specs.Layout.{capacity, Mach, mach, lay, machOf, stateOf, Laid, among, mapFrom, removeAt, removed}
 use Rattle.templates.proofs.Walks.{removed-at}
 
 -- ---- the layout of a list
@@ -31,34 +30,15 @@ lay-snoc ts x h =
     rw (one, set-append-seam) (sym (append-assoc ts (x ∷ []) (replicate rest blank)))
 
 -- the template at place p gone
-pub lay-remove : (ts : List Template) (p : ℕ) → p < length ts → length ts ≤ capacity → removeAt p (lay ts) ≡ lay (take p ts ++ drop (suc p) ts)
+pub lay-remove : (ts : List Template) (p : ℕ) → p < length ts → length ts ≤ capacity
+    → removeAt p ts ++ replicate (capacity - length ts) blank ≡ lay (take p ts ++ drop (suc p) ts)
 lay-remove ts p h u =
     let rest = capacity - length ts in
-    let before : p ≤ length ts = omega arith in
-    let behind : suc p ≤ length ts = omega arith in
     let more : capacity - length (take p ts ++ drop (suc p) ts) ≡ suc rest = simp (length-append, length-take, length-drop) (omega arith) in
-    let blanks : replicate rest blank ++ blank ∷ [] ≡ replicate (suc rest) blank = replicate-append-replicate rest 1 blank ∙ rw add-one refl in
-    rw (take-append-le, drop-append-le, more, append-assoc, append-assoc, blanks) refl
+    rw (more, append-assoc, append-assoc, append-assoc) refl
 
 pub length-mapFrom : {A : Type 0} (f : A → A) (i : ℕ) (xs : List A) → length (mapFrom f i xs) ≡ length xs
 length-mapFrom f i xs = simp (length-append, length-map, length-take, length-drop) (omega arith)
-
--- every place from i on changed, by a change that leaves the blank
-module _ (f : Template → Template) (e : f blank ≡ blank) where
-  map-blanks : (n i : ℕ) → mapFrom f i (replicate n blank) ≡ replicate n blank
-  map-blanks zero zero = refl
-  map-blanks zero (suc i) = refl
-  map-blanks (suc n) zero = ap₂ _∷_ e (map-blanks n zero)
-  map-blanks (suc n) (suc i) = ap (λ r. blank ∷ r) (map-blanks n i)
-
-  map-behind : (ts : List Template) (i n : ℕ) → mapFrom f i (ts ++ replicate n blank) ≡ mapFrom f i ts ++ replicate n blank
-  map-behind [] zero n = map-blanks n zero
-  map-behind [] (suc i) n = map-blanks n (suc i)
-  map-behind (x ∷ ts) zero n = ap (λ r. f x ∷ r) (map-behind ts zero n)
-  map-behind (x ∷ ts) (suc i) n = ap (λ r. x ∷ r) (map-behind ts i n)
-
-  pub lay-map : (ts : List Template) (i : ℕ) → mapFrom f i (lay ts) ≡ lay (mapFrom f i ts)
-  lay-map ts i = rw length-mapFrom (map-behind ts i (capacity - length ts))
 
 -- ---- the state of a machine, and the machine of a state
 
@@ -93,6 +73,10 @@ module _ (s : State) (l : Laid s) where
   pub stateOf-machOf : stateOf (machOf s) ≡ s
   stateOf-machOf = ap₂ (places (s .counter) (s .registers)) (sym (l .whole)) held-length
 
+  -- the places behind the templates
+  blanks : drop (s .count) (s .templates) ≡ replicate (capacity - length held) blank
+  blanks = ap₂ drop (sym held-length) (l .whole) ∙ drop-append-seam held _
+
   -- ---- a rule's change of the places, and any other counter and registers
   module _ (c : Counter) (rf : List Register) where
     pub state-set : (p : ℕ) (x : Template) → p < s .count → places c rf (set (s .templates) p x) (s .count) ≡ stateOf (mach c rf (set held p x))
@@ -104,11 +88,13 @@ module _ (s : State) (l : Laid s) where
         ap₂ (places c rf) (ap₂ (λ ts n. set ts n x) (l .whole) (sym held-length) ∙ lay-snoc held x (omega (arith, held-length)))
         (omega (arith, held-length, length-append held (x ∷ [])))
 
-    pub state-map : (f : Template → Template) → f blank ≡ blank → (i : ℕ) → places c rf (mapFrom f i (s .templates)) (s .count) ≡ stateOf (mach c rf (mapFrom f i held))
-    state-map f e i = ap₂ (places c rf) (ap (mapFrom f i) (l .whole) ∙ lay-map f e held i) (sym (length-mapFrom f i held ∙ held-length))
+    pub state-map : (f : Template → Template) (i : ℕ) → places c rf (among (s .count) (mapFrom f i) (s .templates)) (s .count) ≡ stateOf (mach c rf (mapFrom f i held))
+    state-map f i = rw length-mapFrom (ap₂ (places c rf) (ap (λ ts. mapFrom f i held ++ ts) blanks) (sym held-length))
 
-    pub state-removed : (p : ℕ) → p < s .count → places c rf (removed p (s .templates)) (s .count - 1) ≡ stateOf (mach c rf (take p held ++ drop (suc p) held))
+    pub state-removed : (p : ℕ) → p < s .count
+        → places c rf (among (s .count) (removed p) (s .templates)) (s .count - 1) ≡ stateOf (mach c rf (take p held ++ drop (suc p) held))
     state-removed p h =
         let n = held-length in
-        ap₂ (places c rf) (removed-at p (s .templates) (omega (arith, l .within)) ∙ ap (removeAt p) (l .whole) ∙ lay-remove held p (omega arith) (omega (arith, l .within)))
+        let here : p < length held = omega arith in
+        ap₂ (places c rf) (ap₂ _++_ (removed-at p held here) blanks ∙ lay-remove held p here (omega (arith, l .within)))
         (simp (length-append, length-take, length-drop) (omega (arith, templates-length, l .within)))

@@ -49,6 +49,10 @@ pub record Laid (s : State) : Type 0 where
 
 -- ---- changes of the places
 
+-- the first n places changed, the others as they were
+abbrev pub among : {A : Type 0} → ℕ → (List A → List A) → List A → List A
+among n f xs = f (take n xs) ++ drop n xs
+
 -- every place from i on changed by f
 abbrev pub mapFrom : {A : Type 0} → (A → A) → ℕ → List A → List A
 mapFrom f i xs = take i xs ++ map f (drop i xs)
@@ -57,6 +61,6 @@ mapFrom f i xs = take i xs ++ map f (drop i xs)
 abbrev pub removeAt : ℕ → List Template → List Template
 removeAt p ts = take p ts ++ (drop (suc p) ts ++ blank ∷ [])
 
--- a place that is none leaves the table
+-- a place that is none leaves them
 abbrev pub removed : ℕ → List Template → List Template
-removed p ts = cond (ltb p capacity) (removeAt p ts) ts
+removed p ts = cond (ltb p (length ts)) (removeAt p ts) ts
