@@ -109,52 +109,28 @@ pub fn fetch(program: &[u8], at: InstrAddr) -> Reading
     }
 }
 
+fn laid_out(b0: u8, b1: u8, b2: u8, b3: u8, word: u32) -> Record
+    ensures { λ r. ⌜ r ≡ record { b0 = b0; b1 = b1; b2 = b2; b3 = b3; word = word } ⌝ }
+{
+    Record {
+        b0: b0,
+        b1: b1,
+        b2: b2,
+        b3: b3,
+        word: word,
+    }
+}
+
 fn record_of(i: Instr) -> Record
     ensures { λ r. ⌜ r ≡ recordOf i ⌝ }
 {
     match i {
-        Instr::Loadc(r, k) => Record {
-            b0: 1,
-            b1: r.0,
-            b2: 0,
-            b3: 0,
-            word: k,
-        },
-        Instr::Loadpc(r) => Record {
-            b0: 2,
-            b1: r.0,
-            b2: 0,
-            b3: 0,
-            word: 0,
-        },
-        Instr::Op(r, op, r1, r2) => Record {
-            b0: 3,
-            b1: r.0,
-            b2: r1.0,
-            b3: r2.0,
-            word: op as u32,
-        },
-        Instr::Jz(r1, r2) => Record {
-            b0: 4,
-            b1: 0,
-            b2: r1.0,
-            b3: r2.0,
-            word: 0,
-        },
-        Instr::Load(r, r1) => Record {
-            b0: 5,
-            b1: r.0,
-            b2: r1.0,
-            b3: 0,
-            word: 0,
-        },
-        Instr::Store(r1, r2) => Record {
-            b0: 6,
-            b1: 0,
-            b2: r1.0,
-            b3: r2.0,
-            word: 0,
-        },
+        Instr::Loadc(r, k) => laid_out(1, r.0, 0, 0, k),
+        Instr::Loadpc(r) => laid_out(2, r.0, 0, 0, 0),
+        Instr::Op(r, op, r1, r2) => laid_out(3, r.0, r1.0, r2.0, op as u32),
+        Instr::Jz(r1, r2) => laid_out(4, 0, r1.0, r2.0, 0),
+        Instr::Load(r, r1) => laid_out(5, r.0, r1.0, 0, 0),
+        Instr::Store(r1, r2) => laid_out(6, 0, r1.0, r2.0, 0),
     }
 }
 
