@@ -72,7 +72,7 @@ ready-said : (made : Produced) (x : Operand) → Decides (isReady made x) (Ready
 ready-said made (Known v) = always
 ready-said made (Waits t) = is (made t)
 
-work-said : (made : Produced) (w : Work) → Decides (workOk made w) (WorkOk made w)
+pub work-said : (made : Produced) (w : Work) → Decides (workOk made w) (WorkOk made w)
 work-said made (Done t v) = new-said made t
 work-said made (Op t n x y) = four-say (new-said made t) (ready-said made x) (ready-said made y) (at-most n lastOperation)
 work-said made (Jz x y) = both-say (ready-said made x) (ready-said made y)

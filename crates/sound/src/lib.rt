@@ -1,10 +1,11 @@
 // Soundness of a state, decided.
 ghost use mathlib.Core.Path.{_≡_};
 ghost use Prim.Native.Nat.{_≤_};
+ghost use mathlib.Core.Bool.{true};
 ghost use lib.ListN.{take, drop};
 ghost use Rattle.templates.specs.Templates.{anyReg};
-ghost use Rattle.sound.specs.Sound.{none, after, afterAll, isNew, isReady, workOk, templatesOk, isAlone, registersOk, isJz, counterOk, blankWork, allBlank, isSound};
-ghost use Rattle.sound.specs.Search.{firstJz};
+ghost use Rattle.sound.specs.Sound.{also, after, isNew, isReady, workOk, isAlone, registersOk, isJz, counterOk, blankWork, allBlank, isSound};
+ghost use Rattle.sound.specs.Search.{told, Checks, firstJz};
 use isa::Tag;
 use templates::Counter;
 use templates::Operand;
@@ -14,90 +15,105 @@ use templates::Template;
 use templates::Work;
 use value::Value;
 
-// ---- templates
+// What a walk of the templates found: whether they are in order, and which of the tags 0 to 64 have a producer if they are.
+struct Checked {
+    ok: bool,
+    made: [bool; 65],
+}
 
-// Whether the work, with none before it, produces the tag.
-fn makes_tag(w: Work, t: Tag) -> bool
-    ensures { λ r. ⌜ r ≡ after w none t ⌝ }
+// ---- the tags that have a producer
+
+fn is_made(made: [bool; 65], t: Tag) -> bool
+    ensures { λ r. ⌜ r ≡ told made t ⌝ }
+{
+    let i = t.0 as usize;
+    if i > 64 {
+        return false;
+    }
+    made[i]
+}
+
+fn also(t: Tag, made: [bool; 65]) -> [bool; 65]
+    requires { ⌜ t .0 ≤ 64 ⌝ }
+    ensures { λ r. ⌜ told r ≡ also t (told made) ⌝ }
+{
+    let mut out = made;
+    out[t.0 as usize] = true;
+    out
+}
+
+fn after(w: Work, made: [bool; 65]) -> [bool; 65]
+    requires { ⌜ workOk (told made) w ≡ true ⌝ }
+    ensures { λ r. ⌜ told r ≡ after w (told made) ⌝ }
 {
     match w {
-        Work::Done(u, _) => t.0 == u.0,
-        Work::Op(u, _, _, _) => t.0 == u.0,
-        Work::Jz(_, _) => false,
-        Work::Load(u, _) => t.0 == u.0,
-        Work::Store(_, _) => false,
+        Work::Done(t, _) => also(t, made),
+        Work::Op(t, _, _, _) => also(t, made),
+        Work::Jz(_, _) => made,
+        Work::Load(t, _) => also(t, made),
+        Work::Store(_, _) => made,
     }
 }
 
-// Whether one of the first n templates produces the tag.
-fn made_before(ts: [Template; 64], n: usize, t: Tag) -> bool
-    requires { ⌜ n ≤ 64 ⌝ }
-    ensures { λ r. ⌜ r ≡ afterAll (take n ts) none t ⌝ }
-{
-    let mut i: usize = 0;
-    loop {
-        if i >= n {
-            break false;
-        }
-        let x = ts[i];
-        let w = x.work;
-        if makes_tag(w, t) {
-            break true;
-        }
-        i += 1;
-    }
-}
+// ---- templates
 
-fn is_new(ts: [Template; 64], n: usize, t: Tag) -> bool
-    requires { ⌜ n ≤ 64 ⌝ }
-    ensures { λ r. ⌜ r ≡ isNew (afterAll (take n ts) none) t ⌝ }
+fn is_new(made: [bool; 65], t: Tag) -> bool
+    ensures { λ r. ⌜ r ≡ isNew (told made) t ⌝ }
 {
-    let fresh = !made_before(ts, n, t);
+    let fresh = !is_made(made, t);
     (0 < t.0) & ((t.0 <= 64) & fresh)
 }
 
-fn is_ready(ts: [Template; 64], n: usize, o: Operand) -> bool
-    requires { ⌜ n ≤ 64 ⌝ }
-    ensures { λ r. ⌜ r ≡ isReady (afterAll (take n ts) none) o ⌝ }
+fn is_ready(made: [bool; 65], o: Operand) -> bool
+    ensures { λ r. ⌜ r ≡ isReady (told made) o ⌝ }
 {
     match o {
         Operand::Known(_) => true,
-        Operand::Waits(t) => made_before(ts, n, t),
+        Operand::Waits(t) => is_made(made, t),
     }
 }
 
-fn work_ok(ts: [Template; 64], n: usize, w: Work) -> bool
-    requires { ⌜ n ≤ 64 ⌝ }
-    ensures { λ r. ⌜ r ≡ workOk (afterAll (take n ts) none) w ⌝ }
+fn work_ok(made: [bool; 65], w: Work) -> bool
+    ensures { λ r. ⌜ r ≡ workOk (told made) w ⌝ }
 {
     match w {
-        Work::Done(t, _) => is_new(ts, n, t),
-        Work::Op(t, o, a, b) => is_new(ts, n, t)
-            & (is_ready(ts, n, a) & (is_ready(ts, n, b) & (o <= 4))),
-        Work::Jz(a, b) => is_ready(ts, n, a) & is_ready(ts, n, b),
-        Work::Load(t, a) => is_new(ts, n, t) & is_ready(ts, n, a),
-        Work::Store(a, b) => is_ready(ts, n, a) & is_ready(ts, n, b),
+        Work::Done(t, _) => is_new(made, t),
+        Work::Op(t, o, a, b) => is_new(made, t)
+            & (is_ready(made, a) & (is_ready(made, b) & (o <= 4))),
+        Work::Jz(a, b) => is_ready(made, a) & is_ready(made, b),
+        Work::Load(t, a) => is_new(made, t) & is_ready(made, a),
+        Work::Store(a, b) => is_ready(made, a) & is_ready(made, b),
     }
 }
 
-fn templates_ok(ts: [Template; 64], n: usize, instructions: u32) -> bool
+fn templates_ok(ts: [Template; 64], n: usize, instructions: u32) -> Checked
     requires { ⌜ n ≤ 64 ⌝ }
-    ensures { λ r. ⌜ r ≡ templatesOk instructions none (take n ts) ⌝ }
+    ensures { λ r. ⌜ Checks instructions (take n ts) r ⌝ }
 {
+    let mut made = [false; 65];
     let mut i: usize = 0;
-    loop {
-        if i >= n {
-            break true;
-        }
+    while i < n {
         let x = ts[i];
-        if x.address.0 >= instructions {
-            break false;
-        }
         let w = x.work;
-        if !work_ok(ts, i, w) {
-            break false;
+        if x.address.0 >= instructions {
+            return Checked {
+                ok: false,
+                made: made,
+            };
         }
+        if !work_ok(made, w) {
+            return Checked {
+                ok: false,
+                made: made,
+            };
+        }
+        let more = after(w, made);
+        made = more;
         i += 1;
+    }
+    Checked {
+        ok: true,
+        made: made,
     }
 }
 
@@ -130,9 +146,8 @@ fn tag_from(rf: [Register; 32], from: usize, t: Tag) -> bool
     }
 }
 
-fn registers_ok(rf: [Register; 32], ts: [Template; 64], n: usize) -> bool
-    requires { ⌜ n ≤ 64 ⌝ }
-    ensures { λ r. ⌜ r ≡ registersOk (afterAll (take n ts) none) rf ⌝ }
+fn registers_ok(rf: [Register; 32], made: [bool; 65]) -> bool
+    ensures { λ r. ⌜ r ≡ registersOk (told made) rf ⌝ }
 {
     let mut i: usize = 0;
     loop {
@@ -141,7 +156,7 @@ fn registers_ok(rf: [Register; 32], ts: [Template; 64], n: usize) -> bool
         }
         let x = rf[i];
         let o = x.holds;
-        if !is_ready(ts, n, o) {
+        if !is_ready(made, o) {
             break false;
         }
         if !is_alone(rf, i + 1, o) {
@@ -248,10 +263,12 @@ pub fn is_sound(s: State, instructions: u32) -> bool
     if !all_blank(ts, n) {
         return false;
     }
-    if !templates_ok(ts, n, instructions) {
+    let checked = templates_ok(ts, n, instructions);
+    if !checked.ok {
         return false;
     }
-    if !registers_ok(rf, ts, n) {
+    let made = checked.made;
+    if !registers_ok(rf, made) {
         return false;
     }
     counter_ok(c, ts, n)

@@ -1,14 +1,14 @@
 -- `sound::is_sound` meets its contract.
-use mathlib.Core.Path.{_≡_, sym, _∙_}
+use mathlib.Core.Path.{_≡_, sym, ap, _∙_}
 use Prim.Native.Nat.{ℕ, _≤_}
 use native.Mathlib.Omega.{arith}
 use mathlib.Core.Bool.{_&&_}
 use lib.ListN.{length, drop, length-take}
-use borrow.Author.Needs.{needs}
 use borrow.Author.Tests.{le-leb, lt-leb, not-true, not-false}
 use Rattle.templates.specs.declared.State.{State}
 use Rattle.templates.specs.Layout.{machOf, capacity}
-use Rattle.sound.specs.Sound.{none, afterAll, allBlank, templatesOk, registersOk, counterOk, isSound, soundMach}
+use Rattle.sound.specs.Sound.{Produced, none, afterAll, allBlank, templatesOk, registersOk, counterOk, isSound, soundMach}
+use borrow.Author.Needs.{needs}
 use Rattle.sound.proofs.is_sound.Statement.{statement}
 use Rattle.sound.proofs.is_sound.Tie as tie
 
@@ -37,29 +37,31 @@ templates-ok-requires c κs = search needs
 
 returns-3 : tie.Need-returns-3
 returns-3 c =
-    let blank = sym (c .before .before .before .all-blank .ensures) ∙ not-false _ (c .before .before .if2 .left) in
-    let ts = sym (c .before .templates-ok .ensures) ∙ not-true _ (c .if3 .taken) in
-    rw (tests _ (c .before .before .before .before .before .before .before .args .s) (c .before .before .before .before .before .before .if1 .left), blank, ts)
+    let blank = sym (c .before .before .before .before .all-blank .ensures) ∙ not-false _ (c .before .before .before .if2 .left) in
+    let ts = sym (c .before .before .templates-ok .ensures .verdict) ∙ not-true _ (c .if3 .taken) in
+    rw (tests _ (c .before .before .before .before .before .before .before .before .args .s) (c .before .before .before .before .before .before .before .if1 .left), blank, ts)
 
 registers-ok-requires : tie.Need-registers-ok-requires
 registers-ok-requires c κs = search needs
 
 returns-4 : tie.Need-returns-4
 returns-4 c =
-    let blank = sym (c .before .before .before .before .before .all-blank .ensures) ∙ not-false _ (c .before .before .before .before .if2 .left) in
-    let ts = sym (c .before .before .before .templates-ok .ensures) ∙ not-false _ (c .before .before .if3 .left) in
-    let rf = sym (c .before .registers-ok .ensures) ∙ not-true _ (c .if4 .taken) in
-    rw (tests _ (c .before .before .before .before .before .before .before .before .before .args .s) (c .before .before .before .before .before .before .before .before .if1 .left), blank, ts, rf)
+    let blank = sym (c .before .before .before .before .before .before .before .all-blank .ensures) ∙ not-false _ (c .before .before .before .before .before .before .if2 .left) in
+    let checked = c .before .before .before .before .before .templates-ok .ensures in
+    let fine = not-false _ (c .before .before .before .if3 .left) in
+    let rf = sym (ap (λ (made : Produced). registersOk made (c .before .before .before .before .before .before .before .before .before .before .before .args .s .registers)) (checked .tags fine)) ∙ sym (c .before .registers-ok .ensures) ∙ not-true _ (c .if4 .taken) in
+    rw (tests _ (c .before .before .before .before .before .before .before .before .before .before .before .args .s) (c .before .before .before .before .before .before .before .before .before .before .if1 .left), blank, sym (checked .verdict) ∙ fine, rf)
 
 counter-ok-requires : tie.Need-counter-ok-requires
 counter-ok-requires c κs = search needs
 
 returns-5 : tie.Need-returns-5
 returns-5 c =
-    let blank = sym (c .before .before .before .before .before .before .all-blank .ensures) ∙ not-false _ (c .before .before .before .before .before .if2 .left) in
-    let ts = sym (c .before .before .before .before .templates-ok .ensures) ∙ not-false _ (c .before .before .before .if3 .left) in
-    let rf = sym (c .before .before .registers-ok .ensures) ∙ not-false _ (c .before .if4 .left) in
-    rw (tests _ (c .before .before .before .before .before .before .before .before .before .before .args .s) (c .before .before .before .before .before .before .before .before .before .if1 .left), blank, ts, rf) (c .counter-ok .ensures)
+    let blank = sym (c .before .before .before .before .before .before .before .before .all-blank .ensures) ∙ not-false _ (c .before .before .before .before .before .before .before .if2 .left) in
+    let checked = c .before .before .before .before .before .before .templates-ok .ensures in
+    let fine = not-false _ (c .before .before .before .before .if3 .left) in
+    let rf = sym (ap (λ (made : Produced). registersOk made (c .before .before .before .before .before .before .before .before .before .before .before .before .args .s .registers)) (checked .tags fine)) ∙ sym (c .before .before .registers-ok .ensures) ∙ not-false _ (c .before .if4 .left) in
+    rw (tests _ (c .before .before .before .before .before .before .before .before .before .before .before .before .args .s) (c .before .before .before .before .before .before .before .before .before .before .before .if1 .left), blank, sym (checked .verdict) ∙ fine, rf) (c .counter-ok .ensures)
 
 pub is-sound-spec : {M : Type 1} → statement M
 is-sound-spec =

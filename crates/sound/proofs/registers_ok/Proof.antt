@@ -2,23 +2,23 @@
 use mathlib.Core.Path.{refl, sym, _∙_}
 use Prim.Native.Nat.{_-_}
 use native.Mathlib.Omega.{arith}
-use lib.ListN.{take}
 use borrow.Author.Needs.{needs}
 use borrow.Author.Tests.{not-true, not-false}
 use Rattle.value.specs.declared.Value.the-variants.{Undefined}
 use Rattle.templates.specs.declared.Operand.the-variants.{Known}
 use Rattle.templates.specs.declared.Register.{Register}
 use Rattle.templates.specs.Templates.{register}
-use Rattle.sound.specs.Sound.{none, afterAll, registersOk}
+use Rattle.sound.specs.Sound.{registersOk}
+use Rattle.sound.specs.Search.{told}
 use Rattle.sound.proofs.Turns.{Walking, walk-on, walk-out, walk-end}
 use Rattle.sound.proofs.registers_ok.Statement.{statement}
 use Rattle.sound.proofs.registers_ok.Tie as tie
 
 abbrev Inv-loop : tie.InvT-loop
-Inv-loop ts n rf i₀ i = Walking (λ j. registersOk (afterAll (take n ts) none)) 32 rf i (registersOk (afterAll (take n ts) none) rf)
+Inv-loop made rf i₀ i = Walking (λ j. registersOk (told made)) 32 rf i (registersOk (told made) rf)
 
 abbrev μ-loop : tie.MeasureT-loop
-μ-loop ts n rf i₀ i = 32 - i
+μ-loop made rf i₀ i = 32 - i
 
 abbrev unset : Register
 unset = register (Known Undefined)
