@@ -33,6 +33,7 @@ use Rattle.demands.proofs.Ending.{stuck-agrees}
 use Rattle.demands.proofs.Turns.{on-accepted, continued-keeps, continued-bounded, obeyed-steps}
 use Rattle.demands.proofs.Accepted.{run-accepts, allowed-accepted}
 use Rattle.demands.proofs.Draining.{drains, drain-stuck}
+use Rattle.demands.proofs.Simulates.{rewrites-obeyed}
 
 -- ---- the start
 
@@ -99,6 +100,7 @@ module _ (prog : List Instr) (formed : AllFormed prog) (m : List Value) (cs : Li
       record {
         ran = run-accepts prog cs start m;
         accepts = λ σ m′ e. allowed-accepted prog cs start m e;
+        acceptsMemo = λ σ m′ r. allowed-accepted prog cs start m (rewrites-obeyed prog r);
         bounded = λ vs σ m′ e. continued-bounded vs (here .machine) (here .memory) e;
         agrees = λ vs σ m′ e f.
             with-run (here .issued) (inOrder prog m cs) stepped σ m′ (run-is-steps prog (here .issued) Machine.start 0 m) (continued-agrees vs σ m′ e f);

@@ -3,24 +3,28 @@ use Prim.Native.Nat.{ℕ, zero, suc, _+_, _*_, _/_, _%_, _<_, _≤_}
 use native.Mathlib.Omega.{arith}
 use mathlib.Core.Path.{_≡_, refl, sym, ap, subst, _∙_}
 use mathlib.Core.Logic.{_≢_}
-use mathlib.Core.Bool.{Bool, true, false, cond, _&&_}
+use mathlib.Core.Bool.{Bool, true, false, cond, _&&_, and-false}
 use mathlib.Core.List.{List, _∷_, _++_}
 use lib.Dec.{eqb, ltb}
-use lib.ListN.{length, take, drop}
+use lib.ListN.{length, set, take, drop}
 use lib.Seq.{getD-take, length-take-le}
 use borrow.Author.Tests.{eqb-true, ltb-false}
 use Rattle.records.specs.declared.Verdict.{Verdict}
 use Rattle.records.specs.Refusal.{badLength, badInstruction, unsound, outside}
 use Rattle.records.specs.Records.{tabulate, bytes, replaced, isWhole}
 use Rattle.records.specs.Scan.{verdict, accepted}
+use Rattle.records.specs.Try.{got, fails}
 use Rattle.records.proofs.Tabulate.{length-tabulate, tabulate-same}
 use Rattle.records.proofs.Replaced.{replaced-past}
 use Rattle.value.specs.declared.Value.{Value}
+use Rattle.value.specs.declared.Value.the-variants.{Undefined, Word}
 use Rattle.isa.specs.declared.DataAddr.{DataAddr}
 use Rattle.isa.specs.Instruction.{isFormed}
 use Rattle.isa.specs.Instruction as Instruction
 use Rattle.isa.specs.Program.{program}
 use Rattle.cells.specs.Cells.{cells, image, recordOf, storing}
+use Rattle.cells.proofs.Memory.{length-cells}
+use Rattle.kernel.specs.Kernel.{writeAt, number, written}
 use Rattle.kernel.specs.Checks.{first, checked}
 use Rattle.kernel.proofs.Checking.{refuses, works, checked-memory}
 use Rattle.listing.specs.declared.Listed.{Listed}
@@ -214,6 +218,15 @@ store-unchanged b a v = by-place (ltb (a .0) (length b / 8)) refl
     by-place true e h = absurd (h refl)
     by-place false e h = replaced-past b (a .0) (recordOf v) (ltb-false (a .0) (length b / 8) e)
 
+write-at-unchanged : (b : List ℕ) (a v : Value) → number (writeAt (cells b) a v) ≢ 0 → written b a v ≡ b
+write-at-unchanged b Undefined v h = refl
+write-at-unchanged b (Word w) v h =
+    store-unchanged b (record { 0 = w }) v (λ e. h (numbers (ltb w (length (cells b))) (set (cells b) w v) ∙ rw (length-cells b) e))
+  where
+    numbers : (t : Bool) (m : List Value) → number (cond t (got m) (fails outside)) ≡ cond t 0 outside
+    numbers true m = refl
+    numbers false m = refl
+
 -- a text whose output is too short
 writes-refused : (good : Bool) (text out : List ℕ) {r : Reported} {out′ : List ℕ} → Report.Writes good text out r out′ → r .refusal ≢ 0
     → (good ≡ false) × (out′ ≡ out) × (r .written ≡ 0)
@@ -260,9 +273,11 @@ demand-1 =
           let same = list-unchanged p out (λ e. h (ap (λ (x : Listed). x .refusal) (g .answer) ∙ e)) in
           (g .output ∙ same .0, ap (λ (x : Listed). x .written) (g .answer) ∙ same .1);
       store = λ b a v r b′ g h. g .bytes ∙ store-unchanged b a v (λ e. h (g .answer ∙ e));
+      writeAt = λ b a v r b′ g h. g .bytes ∙ write-at-unchanged b a v (λ e. h (g .answer ∙ e));
       report = λ p b s out r b′ out′ g h.
           let no = writes-refused (Report.hasRoom out) (Report.report p b s) out (g .writes) h in
           (g .memory ∙ ap (λ (t : Bool). cond (t && Report.isFit p b s) (Report.afterDrain p b s) b) (no .0), no .1, no .2);
+      input = λ p b s out r b′ out′ g e. g .memory ∙ rw (e, and-false) refl;
       contents = λ s b out r out′ g h.
           let no = writes-refused (isWhole b && Report.hasRoom out) (contentsText s (cells b)) out g h in
           (no .1, no .2);

@@ -28,3 +28,4 @@ pub mod RunThenDrain
 pub mod OneAnswer
 pub mod Simulates
 pub mod Projects
+pub mod DrainAnswers

@@ -40,7 +40,7 @@ use Rattle.demands.proofs.Simulates.{itbl-outcome}
 -- ---- the drain keeps the outcome
 
 module _ (k : ℕ) (σ : Mach) (m : List Value) (s : Sound k σ) where
-  drain-keeps : (outcome (drain σ m .machine) (drain σ m .memory) ≡ outcome σ m) × Sound k (drain σ m .machine)
+  pub drain-keeps : (outcome (drain σ m .machine) (drain σ m .memory) ≡ outcome σ m) × Sound k (drain σ m .machine)
   drain-keeps = let d = drains σ m (s .few) in on-accepted _ (d .1 .leaves) (continued-keeps k (d .0) σ m s)
 
   drain-agrees : Agrees (outcome σ m) (drain σ m .machine) (drain σ m .memory)

@@ -113,7 +113,7 @@ both-whole p b = go (isWhole p && isWhole b) refl
     go true e h = and-eq-true-iff (isWhole p) (isWhole b) .0 e
     go false e h = absurd (omega arith)
 
-image-long : (m : List Value) → length (image m) ≡ 8 * length m
+pub image-long : (m : List Value) → length (image m) ≡ 8 * length m
 unfolding image
 image-long m = Image.length-image (map recordOf m) ∙ ap (λ (n : ℕ). 8 * n) (length-map m recordOf)
 

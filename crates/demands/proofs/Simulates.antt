@@ -41,7 +41,7 @@ use Rattle.demands.proofs.Follows.{issue-steps-outcome}
 use Rattle.demands.proofs.Ending.{stuck-agrees}
 use Rattle.demands.proofs.Turns.{on-accepted, continued-keeps}
 use Rattle.demands.proofs.Draining.{drains, drain-stuck}
-use Rattle.demands.proofs.Memo.{accepted-exactly}
+use Rattle.demands.proofs.Memo.{memo-accepted, accepted-exactly}
 use Rattle.demands.proofs.MemoBase.{memo-goes}
 
 -- ---- a machine that holds values only
@@ -200,6 +200,12 @@ rewritten prog formed (c ∷ cs) σ m {σ′} {m′} s e = first (obey prog c σ
         next σ τ σ′ m l m′ c cs (accepted-exactly prog (length prog) σ (sound-said (length prog) σ .says s) m c τ l .0 g)
         (rest τ l (on-accepted _ g (obey-keeps-sound prog formed σ m s c)) f)
     first (refused n) g f rest = absurd (subst Refused f tt)
+
+-- and back, where the machine need not be sound: the memo's rules are accepted
+pub rewrites-obeyed : (prog : List Instr) {σ σ′ : Mach} {m m′ : List Value} {cs : List Command} → Rewrites prog σ m cs σ′ m′
+    → obeyed prog cs σ m ≡ accepted σ′ m′
+rewrites-obeyed prog (none σ m) = refl
+rewrites-obeyed prog (next σ τ σ′ m l m′ c cs r rest) = rw (memo-accepted prog r) (rewrites-obeyed prog rest)
 
 -- ---- Theorem 1
 

@@ -2,6 +2,7 @@
 use mathlib.Core.Path.{_≡_}
 use mathlib.Core.Logic.{_≢_}
 use Prim.Native.Nat.{ℕ, _*_, _<_}
+use mathlib.Core.Bool.{false}
 use mathlib.Core.List.{List}
 use lib.ListN.{getD, take}
 use Rattle.value.specs.declared.Value.{Value}
@@ -9,6 +10,7 @@ use Rattle.isa.specs.declared.DataAddr.{DataAddr}
 use Rattle.isa.specs.declared.Instr.{Instr}
 use Rattle.isa.specs.Program.{Wrote}
 use Rattle.cells.specs.Cells.{Stores}
+use Rattle.kernel.specs.Kernel.{Writes}
 use Rattle.kernel.specs.Checks.{checked}
 use Rattle.listing.specs.declared.Listed.{Listed}
 use Rattle.listing.specs.Listing.{Lists}
@@ -22,7 +24,7 @@ use Rattle.renaming.specs.declared.Ran.{Ran}
 use Rattle.renaming.specs.declared.Settled.{Settled}
 use Rattle.renaming.specs.Entries.{entered, enteredRun, Steps, Runs, Drains}
 use Rattle.report.specs.declared.Reported.{Reported}
-use Rattle.report.specs.Report.{Reports, Shows}
+use Rattle.report.specs.Report.{isFit, Reports, Shows}
 
 -- every element of a lent buffer is a byte
 abbrev pub AreBytes : List ℕ → Type 0
@@ -54,8 +56,12 @@ pub record Demand1 : Type 0 where
   pub list : (p out : List ℕ) (r : Listed) (out′ : List ℕ) → Lists p out r out′ → r .refusal ≢ 0 → (out′ ≡ out) × (r .written ≡ 0)
   -- a cell outside memory
   pub store : (b : List ℕ) (a : DataAddr) (v : Value) (r : ℕ) (b′ : List ℕ) → Stores b a v r b′ → r ≢ 0 → b′ ≡ b
+  -- an address that is undefined, or outside memory
+  pub writeAt : (b : List ℕ) (a v : Value) (r : ℕ) (b′ : List ℕ) → Writes b a v r b′ → r ≢ 0 → b′ ≡ b
   -- a report that isn't written: nothing was run
   pub report : (p b s out : List ℕ) (r : Reported) (b′ out′ : List ℕ) → Reports p b s out r b′ out′ → r .refusal ≢ 0
       → (b′ ≡ b) × (out′ ≡ out) × (r .written ≡ 0)
+  -- nor was it where a file is refused
+  pub input : (p b s out : List ℕ) (r : Reported) (b′ out′ : List ℕ) → Reports p b s out r b′ out′ → isFit p b s ≡ false → b′ ≡ b
   -- a machine's contents that aren't written
   pub contents : (s : State) (b out : List ℕ) (r : Reported) (out′ : List ℕ) → Shows s b out r out′ → r .refusal ≢ 0 → (out′ ≡ out) × (r .written ≡ 0)

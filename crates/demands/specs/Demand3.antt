@@ -16,6 +16,7 @@ use Rattle.demands.specs.Moves.{Move, Stuck, continued}
 use Rattle.demands.specs.Schedules.{obeyed, issues, RanTo}
 use Rattle.demands.specs.OldestFirst.{DrainsBy}
 use Rattle.demands.specs.Agrees.{AgreesWith}
+use Rattle.demands.specs.Simulates.{Rewrites}
 
 -- of a program, a memory and a schedule
 module _ (prog : List Instr) (m : List Value) (cs : List Command) where
@@ -30,12 +31,18 @@ module _ (prog : List Instr) (m : List Value) (cs : List Command) where
   abbrev pub drained : Drained
   drained = drain (there .machine) (there .memory)
 
+  -- if the schedule leads to a machine and a memory, in the sense given, the run accepts all of it and ends there
+  abbrev pub AcceptedIf : (Mach → List Value → Type 0) → Type 0
+  AcceptedIf Leads = (σ : Mach) (m′ : List Value) → Leads σ m′
+      → there ≡ record { accepted = length cs; issued = issues cs; refusal = 0; machine = σ; memory = m′ }
+
   pub record Demand3 : Type 0 where
     -- the run accepts as much of the schedule as is allowed
     pub ran : RanTo prog cs start m there
     -- a schedule each of whose records is allowed where it stands is accepted to its end
-    pub accepts : (σ : Mach) (m′ : List Value) → obeyed prog cs start m ≡ accepted σ m′
-        → there ≡ record { accepted = length cs; issued = issues cs; refusal = 0; machine = σ; memory = m′ }
+    pub accepts : AcceptedIf (λ σ m′. obeyed prog cs start m ≡ accepted σ m′)
+    -- so is one each of whose records is a rule of the memo that applies where it stands
+    pub acceptsMemo : AcceptedIf (Rewrites prog start m cs)
     -- from there, no more than four rules other than issue are accepted for each template
     pub bounded : (vs : List Move) (σ : Mach) (m′ : List Value) → continued vs (there .machine) (there .memory) ≡ accepted σ m′
         → length vs ≤ 4 * length (there .machine .held)

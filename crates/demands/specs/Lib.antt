@@ -10,5 +10,6 @@ pub mod MemoBase
 pub mod Conditions
 pub mod Demand1
 pub mod RunThenDrain
+pub mod DrainAnswers
 pub mod OneAnswer
 pub mod Simulates

@@ -45,7 +45,6 @@ use Rattle.templates.specs.Layout.{stateOf, among, mapFrom, removed}
 use Rattle.templates.specs.Layout as Layout
 use Rattle.sound.specs.Sound as Sound
 use Rattle.renaming.specs.Entries.{Steps, Runs, Drains}
-use Rattle.report.specs.declared.Reported.{Reported}
 use Rattle.report.specs.Report.{Reports, Shows}
 
 -- of a promise about an answer
