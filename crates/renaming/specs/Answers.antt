@@ -72,7 +72,7 @@ pub record Fit (p : List ℕ) (s : State) : Type 0 where
   pub laid : Laid s
   pub sound : soundMach (length p / 8) (machOf s) ≡ true
 
--- every template's next address is an address
+-- every template's address is below 1,024, so that the next is an address too
 abbrev pub Within : State → Type 0
 Within s = (p : ℕ) → p < s .count → getD (s .templates) p blank .address .0 < 1024
 

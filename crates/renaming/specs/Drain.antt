@@ -96,7 +96,7 @@ blockedAt (x ∷ xs) = x .address
 
 -- ---- what the code's leaves answer
 
--- the lowest rule that may be allowed at a template, by the registers and the templates behind it
+-- the one rule that can be the lowest allowed at a template, by the registers and the templates behind it
 abbrev pub dueValue : List Register → List Template → Tag → Rule
 dueValue rf post t = cond (anyHolds t post) Rule.Forward (cond (anyReg t rf) Rule.Commit Rule.Retire)
 

@@ -24,7 +24,7 @@ use templates::Work;
 use templates::table;
 use value::Value;
 
-// The lowest rule that may be allowed at a template; of a value template by who holds its tag.
+// The one rule that can be the lowest allowed at a template, so that no other is tried and no state copied for it.
 fn due(s: State, p: usize, w: Work) -> Rule
     requires { ⌜ p < 64 ⌝ }
     ensures { λ r. ⌜ r ≡ due (s .registers) (behind s p) w ⌝ }
@@ -148,8 +148,7 @@ fn settle(s: State, rules: usize, memory: &[u8]) -> Settled
     }
 }
 
-// The drain of a state that was checked: the oldest template first, and after each rule from the front again. Four rules for
-// each of 64 templates are enough.
+// The drain of a state that was checked. Each search starts at the oldest; four rules for each of 64 templates are enough.
 fn empty(s: State, program: &[u8], memory: &mut [u8]) -> Settled
     requires { ⌜ Fit (now program) s × (scanOf (now program) ≡ accepted) ⌝ }
     ensures { λ r. ⌜ Empties s (now (memory .entry)) r (now (memory .exit)) ⌝ }

@@ -55,8 +55,8 @@ pub struct Ran {
     pub number: usize,
 }
 
-// The state that a drain leaves, the rules that it applied, and the record number of refusals 2 and 3. The refusal is 0 if no
-// template is left; of a drain that was checked it is else the oldest template's, whose address stands beside it.
+// The state that a drain leaves, the rules that it applied, and the record number of refusals 2 and 3. The refusal is 1 to 4 where
+// the checks refuse; else 0 if no template is left, or the oldest template's, whose address stands beside it.
 pub struct Settled {
     pub state: templates::State,
     pub rules: usize,
