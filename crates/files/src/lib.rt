@@ -9,7 +9,7 @@ fn unreadable(buf: &[u8]) -> usize
     io::count(1, buf)
 }
 
-// How many of the file's bytes are at the start of the buffer.
+// How many of the file's bytes are at the start of the buffer; io::read_full doesn't tell a failed read, so the end is looked for.
 fn load(path: &[u8], buf: &mut [u8]) -> usize
     ensures { λ r. ⌜ Counts r (now (buf .exit)) ⌝ }
 {
@@ -21,7 +21,7 @@ fn load(path: &[u8], buf: &mut [u8]) -> usize
     let mut next = [0u8; 1];
     let end = libc::read(fd, &mut next);
     libc::close(fd);
-    if end < 0 {
+    if end != 0 {
         return unreadable(buf);
     }
     n
