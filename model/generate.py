@@ -892,6 +892,7 @@ def sizes(cases, rng):
     cases.report(ends, wide + memory_of(None), issues(1, 2, 3, 0, 4))
     cases.in_order(ends, wide + memory_of(None), 100)
     cases.report(ends, wide[:8184] + bytes((0, 0, 0, 0, 0, 0, 0, 1)), b"")
+    cases.report(FILL, b"", bytes(4 * ax.SCHEDULE_LIMIT))
     cases.report(FILL, b"", bytes(4 * (ax.SCHEDULE_LIMIT + 1)))
     for number in (63, 64, 65):
         for length in (64, 65):
