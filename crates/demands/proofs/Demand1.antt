@@ -6,14 +6,13 @@ use mathlib.Core.Logic.{_≢_}
 use mathlib.Core.Bool.{Bool, true, false, cond, _&&_, and-false}
 use mathlib.Core.List.{List, _∷_, _++_}
 use lib.Dec.{eqb, ltb}
-use lib.ListN.{length, set, take, drop}
+use lib.ListN.{length, take, drop}
 use lib.Seq.{getD-take, length-take-le}
 use borrow.Author.Tests.{eqb-true, ltb-false}
 use Rattle.records.specs.declared.Verdict.{Verdict}
 use Rattle.records.specs.Refusal.{badLength, badInstruction, unsound, outside}
 use Rattle.records.specs.Records.{tabulate, bytes, replaced, isWhole}
 use Rattle.records.specs.Scan.{verdict, accepted}
-use Rattle.records.specs.Try.{got, fails}
 use Rattle.records.proofs.Tabulate.{length-tabulate, tabulate-same}
 use Rattle.records.proofs.Replaced.{replaced-past}
 use Rattle.value.specs.declared.Value.{Value}
@@ -23,10 +22,10 @@ use Rattle.isa.specs.Instruction.{isFormed}
 use Rattle.isa.specs.Instruction as Instruction
 use Rattle.isa.specs.Program.{program}
 use Rattle.cells.specs.Cells.{cells, image, recordOf, storing}
-use Rattle.cells.proofs.Memory.{length-cells}
-use Rattle.kernel.specs.Kernel.{writeAt, number, written}
+use Rattle.kernel.specs.Kernel.{dataAddr, writeAt, number, written}
 use Rattle.kernel.specs.Checks.{first, checked}
 use Rattle.kernel.proofs.Checking.{refuses, works, checked-memory}
+use Rattle.kernel.proofs.Writing.{store-number}
 use Rattle.listing.specs.declared.Listed.{Listed}
 use Rattle.listing.specs.Listing as Listing
 use Rattle.inorder.specs.declared.InOrder.{InOrder}
@@ -220,12 +219,7 @@ store-unchanged b a v = by-place (ltb (a .0) (length b / 8)) refl
 
 write-at-unchanged : (b : List ℕ) (a v : Value) → number (writeAt (cells b) a v) ≢ 0 → written b a v ≡ b
 write-at-unchanged b Undefined v h = refl
-write-at-unchanged b (Word w) v h =
-    store-unchanged b (record { 0 = w }) v (λ e. h (numbers (ltb w (length (cells b))) (set (cells b) w v) ∙ rw (length-cells b) e))
-  where
-    numbers : (t : Bool) (m : List Value) → number (cond t (got m) (fails outside)) ≡ cond t 0 outside
-    numbers true m = refl
-    numbers false m = refl
+write-at-unchanged b (Word w) v h = store-unchanged b (dataAddr w) v (λ e. h (sym (store-number b w v) ∙ e))
 
 -- a text whose output is too short
 writes-refused : (good : Bool) (text out : List ℕ) {r : Reported} {out′ : List ℕ} → Report.Writes good text out r out′ → r .refusal ≢ 0

@@ -61,7 +61,7 @@ pub record Demand1 : Type 0 where
   -- a report that isn't written: nothing was run
   pub report : (p b s out : List ℕ) (r : Reported) (b′ out′ : List ℕ) → Reports p b s out r b′ out′ → r .refusal ≢ 0
       → (b′ ≡ b) × (out′ ≡ out) × (r .written ≡ 0)
-  -- nor was it where a file is refused
+  -- a report on a file that is refused: nothing was run
   pub input : (p b s out : List ℕ) (r : Reported) (b′ out′ : List ℕ) → Reports p b s out r b′ out′ → isFit p b s ≡ false → b′ ≡ b
   -- a machine's contents that aren't written
   pub contents : (s : State) (b out : List ℕ) (r : Reported) (out′ : List ℕ) → Shows s b out r out′ → r .refusal ≢ 0 → (out′ ≡ out) × (r .written ≡ 0)

@@ -24,7 +24,7 @@ use Rattle.renaming.specs.Answers.{before, behind, Stands, at}
 use Rattle.renaming.specs.Drain.{first, rules, firstOf, due}
 use Rattle.renaming.proofs.Applied.{apply-at}
 
--- one that is alone
+-- with a refusal behind it, a rule answers as it does alone
 alone : (t : Step) (n : ℕ) (other : Step) → first (first t (refused n)) other ≡ first t other
 alone (accepted σ m) n other = refl
 alone (refused k) n other = refl
@@ -40,7 +40,7 @@ module _ (s : State) (p : ℕ) (m : List Value) (x : Template) where
   first-at w h (r ∷ rs) = ap₂ first (apply-at s r p m x w h) (first-at w h rs)
 
   module _ (other : Step) where
-    -- the rule that is due, and the first of all, before others
+    -- before any others, the rule that is due answers as the first of all rules does
     abbrev Same : Work → Type 0
     Same w = first (firstAt w rules) other ≡ first (at (due (s .registers) (behind s p) w) s p x w m) other
 

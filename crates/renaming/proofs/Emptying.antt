@@ -116,7 +116,7 @@ store-blocked s x (Known u) (Known v) m = sym (numbers-alike m u v) ∙ sym (sto
 
 -- ---- the loop of a drain
 
--- after n rules a search has come to t: the drain from there on, with a rule of this many at most
+-- the drain after n rules, with so many more at most, once its search has come to t
 abbrev turn : ℕ → ℕ → Mach → List Value → Step → Drained
 turn zero n σ m t = record { rules = n; machine = σ; memory = m }
 turn (suc fuel) n σ m t = further (λ σ′ m′. drainFrom fuel (n + 1) σ′ m′) (record { rules = n; machine = σ; memory = m }) t
@@ -126,7 +126,7 @@ unfolding drainFrom
 turn-first zero n σ m = refl
 turn-first (suc fuel) n σ m = refl
 
--- the places from p on
+-- the search from place p on
 abbrev from : State → ℕ → List Value → Step
 from s p m = seek (s .count - p) p (machOf s) m
 
