@@ -16,22 +16,22 @@ use Rattle.templates.specs.Templates.{register}
 use Rattle.templates.specs.Layout.{Mach, start}
 use Rattle.sound.specs.Sound as Sound
 use Rattle.sound.proofs.Soundness.{RegistersOk, Sound}
-use Rattle.renaming.specs.declared.Command.{Command}
-use Rattle.renaming.specs.Rules.{accepted}
-use Rattle.renaming.specs.Run.{End, run}
+use Rattle.rules.specs.declared.Command.{Command}
+use Rattle.rules.specs.Rules.{accepted}
+use Rattle.rules.specs.Run.{End, run}
 use Rattle.isa.proofs.Formed.{AllFormed, program-formed}
 use Rattle.inorder.specs.declared.Register.{Register}
 use Rattle.inorder.specs.Machine.{steps}
 use Rattle.inorder.specs.Machine as Machine
 use Rattle.inorder.specs.Entries as InOrder
 use Rattle.inorder.proofs.Laws.{CameTo, run-is-steps}
-use Rattle.demands.specs.Moves.{Move, Stuck, continued}
+use Rattle.rules.specs.Moves.{Move, Stuck, continued}
 use Rattle.demands.specs.Agrees.{valued, Agrees, AgreesWith}
 use Rattle.demands.specs.Demand3.{there, inOrder, Demand3}
 use Rattle.demands.proofs.Flush.{outcome}
 use Rattle.demands.proofs.Ending.{stuck-agrees}
 use Rattle.demands.proofs.Turns.{on-accepted, continued-keeps, continued-bounded, obeyed-steps}
-use Rattle.demands.proofs.Accepted.{run-accepts, allowed-accepted}
+use Rattle.rules.proofs.Accepted.{run-accepts, allowed-accepted}
 use Rattle.demands.proofs.Draining.{drains, drain-stuck}
 use Rattle.demands.proofs.Simulates.{rewrites-obeyed}
 

@@ -27,13 +27,13 @@ use Rattle.templates.specs.declared.Counter.the-variants.{At, Stall}
 use Rattle.templates.specs.Templates.{blank, anyHolds, anyMemory, anyReg}
 use Rattle.templates.specs.Layout.{Mach, capacity}
 use Rattle.sound.proofs.Basics.{by-test}
-use Rattle.renaming.specs.declared.Rule.{Rule}
-use Rattle.renaming.specs.declared.Rule.the-variants as Rule
-use Rattle.renaming.specs.declared.Command.{Command}
-use Rattle.renaming.specs.declared.Command.the-variants.{Malformed, Issue, Apply}
+use Rattle.rules.specs.declared.Rule.{Rule}
+use Rattle.rules.specs.declared.Rule.the-variants as Rule
+use Rattle.rules.specs.declared.Command.{Command}
+use Rattle.rules.specs.declared.Command.the-variants.{Malformed, Issue, Apply}
 use Rattle.records.specs.Refusal.{noInstruction, stalled, full, badTag, needsTag, isUndefined, outside}
-use Rattle.renaming.specs.Rules.{Step, accepted, refused, holding, tried, known, becomes, goTo, rule, apply, tagOk, issueAt, issueFrom, issue}
-use Rattle.renaming.specs.Schedule.{obey}
+use Rattle.rules.specs.Rules.{Step, accepted, refused, holding, tried, known, becomes, goTo, rule, apply, tagOk, issueAt, issueFrom, issue}
+use Rattle.rules.specs.Schedule.{obey}
 use Rattle.records.proofs.Leading.{found-inside}
 use Rattle.demands.specs.Conditions.{Condition, _else_, AllHold, FirstFails, isKnown, valueIn, isDefined, isWithin, needs, isAddress, instrAt, isThere, tagFits, conditions}
 

@@ -26,14 +26,14 @@ use Rattle.templates.specs.declared.Counter.the-variants.{At}
 use Rattle.templates.specs.Templates.{template, register, anyMakes, anyMemory, fillAll, fillRegs}
 use Rattle.templates.specs.Layout.{Mach, mach}
 use Rattle.sound.proofs.Soundness.{Sound, value-made-once, straight}
-use Rattle.renaming.specs.declared.Rule.{Rule}
-use Rattle.renaming.specs.declared.Rule.the-variants as Rule
-use Rattle.renaming.specs.Rules.{Step, accepted, refused, holding, tried, known, becomes, goTo, rule, apply}
-use Rattle.renaming.specs.Drain.{drain}
-use Rattle.renaming.proofs.Environment.{Env, resolve}
-use Rattle.renaming.proofs.Cases.{OnStep, Cases, apply-at, apply-cases}
-use Rattle.renaming.proofs.Keeping.{apply-keeps-sound}
-use Rattle.demands.specs.Moves.{Move, move, Refused, Stuck, continued}
+use Rattle.rules.specs.declared.Rule.{Rule}
+use Rattle.rules.specs.declared.Rule.the-variants as Rule
+use Rattle.rules.specs.Rules.{Step, accepted, refused, holding, tried, known, becomes, goTo, rule, apply}
+use Rattle.rules.specs.Drain.{drain}
+use Rattle.rules.proofs.Environment.{Env, resolve}
+use Rattle.rules.proofs.Cases.{OnStep, Cases, apply-at, apply-cases}
+use Rattle.rules.proofs.Keeping.{apply-keeps-sound}
+use Rattle.rules.specs.Moves.{Move, move, Refused, Stuck, continued}
 use Rattle.demands.proofs.Flush.{nothing}
 use Rattle.demands.proofs.Early.{reads}
 use Rattle.demands.proofs.Ending.{no-value}

@@ -37,14 +37,14 @@ use Rattle.inorder.proofs.Laws.{stop-changes-nothing}
 use Rattle.templates.specs.declared.State.{State}
 use Rattle.templates.specs.Layout.{machOf, stateOf}
 use Rattle.sound.specs.Sound.{isSound}
-use Rattle.renaming.specs.declared.Command.{Command}
+use Rattle.rules.specs.declared.Command.{Command}
 use Rattle.renaming.specs.declared.Stepped.{Stepped}
 use Rattle.renaming.specs.declared.Ran.{Ran}
 use Rattle.renaming.specs.declared.Settled.{Settled}
-use Rattle.renaming.specs.Rules as Rules
-use Rattle.renaming.specs.Rules.{Step}
-use Rattle.renaming.specs.Run.{End, commands}
-use Rattle.renaming.specs.Run as Run
+use Rattle.rules.specs.Rules as Rules
+use Rattle.rules.specs.Rules.{Step}
+use Rattle.rules.specs.Run.{End, commands}
+use Rattle.rules.specs.Run as Run
 use Rattle.renaming.specs.Answers.{answerOf, memoryOf}
 use Rattle.renaming.specs.Entries.{entered, enteredWith, once, stepAnswer, stepped, steppedMemory, enteredRun, runs, ended, ran, ranMemory, Runs}
 use Rattle.renaming.proofs.Going.{run-refused, schedule-whole, commandAt}
@@ -53,7 +53,7 @@ use Rattle.report.specs.declared.Reported.{Reported}
 use Rattle.report.specs.Lines.{contentsText}
 use Rattle.report.specs.Report as Report
 use Rattle.demands.specs.Demand1.{AreBytes, Demand1}
-use Rattle.demands.proofs.Accepted.{run-accepts, allowed-accepted}
+use Rattle.rules.proofs.Accepted.{run-accepts, allowed-accepted}
 
 -- ---- a check and what it guards
 

@@ -12,7 +12,7 @@ use Rattle.kernel.specs.Kernel.{Run, going, stopped}
 use Rattle.kernel.proofs.Checking.{works, checked-memory}
 use Rattle.templates.specs.declared.State.{State}
 use Rattle.templates.specs.Layout.{Mach, capacity, machOf, stateOf}
-use Rattle.renaming.specs.Rules.{Step, accepted, refused}
+use Rattle.rules.specs.Rules.{Step, accepted, refused}
 use Rattle.renaming.specs.Answers.{answerOf, memoryOf}
 use Rattle.renaming.specs.Entries.{entered, enteredWith, command, once, stepAnswer, stepped, steppedMemory}
 use Rattle.renaming.proofs.Going.{record-whole}

@@ -21,16 +21,16 @@ use Rattle.templates.specs.Layout.{Mach, machOf}
 use Rattle.templates.proofs.Places.{machOf-stateOf, held-length}
 use Rattle.sound.proofs.Soundness.{Sound}
 use Rattle.sound.proofs.Decides.{sound-said}
-use Rattle.renaming.specs.declared.Rule.{Rule}
-use Rattle.renaming.specs.declared.Rule.the-variants as Rule
-use Rattle.renaming.specs.declared.Command.the-variants.{Apply}
-use Rattle.renaming.specs.Rules.{Step, accepted, refused, apply}
-use Rattle.renaming.specs.Schedule.{obey}
-use Rattle.renaming.specs.Drain.{Drained, drain, asks, refusal, blocking, blockedAt}
+use Rattle.rules.specs.declared.Rule.{Rule}
+use Rattle.rules.specs.declared.Rule.the-variants as Rule
+use Rattle.rules.specs.declared.Command.the-variants.{Apply}
+use Rattle.rules.specs.Rules.{Step, accepted, refused, apply}
+use Rattle.rules.specs.Schedule.{obey}
+use Rattle.rules.specs.Drain.{Drained, drain, asks, refusal, blocking, blockedAt}
 use Rattle.renaming.specs.Entries.{entered, settled, drained, drainedMemory}
 use Rattle.renaming.proofs.Fitting.{entered-fit}
 use Rattle.inorder.specs.declared.Register.{Register}
-use Rattle.demands.specs.Moves.{move, Refused, Stuck}
+use Rattle.rules.specs.Moves.{move, Refused, Stuck}
 use Rattle.demands.specs.Agrees.{Blocked, Agrees}
 use Rattle.demands.specs.Conditions.{Condition, _else_, FirstFails, valueIn, isWithin, needs}
 use Rattle.demands.specs.DrainAnswers.{DrainAnswers}

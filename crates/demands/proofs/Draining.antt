@@ -6,13 +6,14 @@ use mathlib.Core.List.{List, [], _∷_}
 use lib.ListN.{length}
 use Rattle.value.specs.declared.Value.{Value}
 use Rattle.templates.specs.Layout.{Mach, capacity}
-use Rattle.renaming.specs.Rules.{Step, accepted, refused}
-use Rattle.renaming.specs.Drain.{Drained, further, oldest, drainFrom, drain}
-use Rattle.demands.specs.Moves.{Move, move, Refused, Stuck, andThen, continued}
-use Rattle.demands.specs.OldestFirst.{Oldest, Leaves, OldestFirst, DrainsBy}
+use Rattle.rules.specs.Rules.{Step, accepted, refused}
+use Rattle.rules.specs.Drain.{Drained, further, oldest, drainFrom, drain}
+use Rattle.rules.specs.Moves.{Move, move, Refused, Stuck, andThen, continued}
+use Rattle.rules.specs.OldestFirst.{Oldest}
+use Rattle.demands.specs.OldestFirst.{Leaves, OldestFirst, DrainsBy}
 use Rattle.demands.proofs.Weight.{weight, apply-lowers-weight}
 use Rattle.demands.proofs.Turns.{on-accepted, continued-bounded}
-use Rattle.demands.proofs.Oldest.{Found, found, one-oldest, oldest-is, refused-not}
+use Rattle.rules.proofs.Oldest.{Found, found, one-oldest, oldest-is, refused-not}
 
 abbrev drained : ℕ → Mach → List Value → Drained
 drained n σ m = record { rules = n; machine = σ; memory = m }

@@ -23,8 +23,8 @@ use Rattle.templates.specs.declared.Work.the-variants.{Done, Op, Jz, Load, Stor
 use Rattle.templates.specs.declared.Template.{Template}
 use Rattle.sound.specs.Sound.{isJz, anyJz}
 use Rattle.sound.proofs.Basics.{neither}
-use Rattle.renaming.proofs.Environment.{Env, resolve}
-use Rattle.renaming.proofs.Order.{LetsLoad, LetsStore, Each}
+use Rattle.rules.proofs.Environment.{Env, resolve}
+use Rattle.rules.proofs.Order.{LetsLoad, LetsStore, Each}
 use Rattle.demands.proofs.Binding.{bind}
 use Rattle.demands.proofs.Flush.{execute, flush}
 

@@ -29,14 +29,14 @@ use Rattle.templates.specs.Layout.{Mach, mach}
 use Rattle.sound.specs.Sound.{isJz}
 use Rattle.sound.specs.Sound as Sound
 use Rattle.sound.proofs.Soundness.{Ready, WorkOk, RegistersOk, Sound}
-use Rattle.renaming.specs.declared.Rule.{Rule}
-use Rattle.renaming.specs.declared.Rule.the-variants as Rule
-use Rattle.renaming.specs.Rules.{accepted, refused, tried, known, becomes, goTo, rule}
-use Rattle.renaming.specs.Rules as Rules
-use Rattle.renaming.specs.Drain.{asks}
-use Rattle.renaming.proofs.Environment.{resolve}
-use Rattle.renaming.proofs.Cases.{apply-at}
-use Rattle.demands.specs.Moves.{Refused, Stuck}
+use Rattle.rules.specs.declared.Rule.{Rule}
+use Rattle.rules.specs.declared.Rule.the-variants as Rule
+use Rattle.rules.specs.Rules.{accepted, refused, tried, known, becomes, goTo, rule}
+use Rattle.rules.specs.Rules as Rules
+use Rattle.rules.specs.Drain.{asks}
+use Rattle.rules.proofs.Environment.{resolve}
+use Rattle.rules.proofs.Cases.{apply-at}
+use Rattle.rules.specs.Moves.{Refused, Stuck}
 use Rattle.demands.specs.Agrees.{valued, Agrees}
 use Rattle.demands.proofs.Flush.{execute, values, begin, nothing, outcome, flush-stopped}
 

@@ -15,12 +15,12 @@ use Rattle.templates.specs.declared.Operand.the-variants.{Waits}
 use Rattle.templates.specs.declared.Counter.the-variants.{At}
 use Rattle.templates.specs.Templates.{put}
 use Rattle.templates.specs.Layout.{start}
-use Rattle.renaming.specs.declared.Command.{Command}
-use Rattle.renaming.specs.declared.Command.the-variants.{Issue}
-use Rattle.renaming.specs.Rules.{issue, apply}
-use Rattle.renaming.specs.Schedule.{commandOf, obey}
-use Rattle.renaming.specs.Run.{End, commands, run, runFrom}
-use Rattle.renaming.specs.Drain.{Drained, drain, drainFrom, oldest, blocking, blockedAt}
+use Rattle.rules.specs.declared.Command.{Command}
+use Rattle.rules.specs.declared.Command.the-variants.{Issue}
+use Rattle.rules.specs.Rules.{issue, apply}
+use Rattle.rules.specs.Schedule.{commandOf, obey}
+use Rattle.rules.specs.Run.{End, commands, run, runFrom}
+use Rattle.rules.specs.Drain.{Drained, drain, drainFrom, oldest, blocking, blockedAt}
 use Rattle.inorder.specs.Machine.{step}
 use Rattle.inorder.specs.Machine as Machine
 use Rattle.inorder.specs.Entries as InOrder

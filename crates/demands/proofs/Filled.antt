@@ -16,7 +16,7 @@ use Rattle.templates.specs.declared.Template.{Template}
 use Rattle.templates.specs.declared.Register.{Register}
 use Rattle.templates.specs.Templates.{sameTag, makes, anyMakes, fill, fillWork, fillAll, fillRegs}
 use Rattle.sound.proofs.Basics.{by-test, neither, same-tag}
-use Rattle.renaming.proofs.Environment.{Env, resolve}
+use Rattle.rules.proofs.Environment.{Env, resolve}
 use Rattle.inorder.specs.Machine as InOrder
 use Rattle.demands.proofs.Binding.{bind, bind-itself, bind-other}
 use Rattle.demands.proofs.Flush.{execute, flush, values, finish}

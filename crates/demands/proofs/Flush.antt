@@ -18,7 +18,7 @@ use Rattle.templates.specs.declared.Counter.the-variants.{At, Stall}
 use Rattle.templates.specs.Layout.{Mach}
 use Rattle.sound.specs.Sound.{isJz, anyJz}
 use Rattle.sound.proofs.Basics.{neither}
-use Rattle.renaming.proofs.Environment.{Env, resolve}
+use Rattle.rules.proofs.Environment.{Env, resolve}
 use Rattle.demands.proofs.Binding.{bind}
 use Rattle.inorder.specs.declared.Register.{Register as InOrderRegister}
 use Rattle.inorder.specs.Machine as InOrder

@@ -26,10 +26,10 @@ use Rattle.templates.specs.Layout.{Mach, mach, capacity}
 use Rattle.sound.specs.Sound.{anyJz}
 use Rattle.sound.proofs.Basics.{by-test, neither}
 use Rattle.sound.proofs.Soundness.{CounterOk, Sound, fresh-unheld}
-use Rattle.renaming.specs.Rules.{Step, tried, isFresh, tagOk, workOf, renamed, counterAfter, issued, issueAt, issueFrom, issue}
-use Rattle.renaming.proofs.Environment.{Env, resolve}
-use Rattle.renaming.proofs.Cases.{OnStep}
-use Rattle.renaming.proofs.Keeping.{fresh-says}
+use Rattle.rules.specs.Rules.{Step, tried, isFresh, tagOk, workOf, renamed, counterAfter, issued, issueAt, issueFrom, issue}
+use Rattle.rules.proofs.Environment.{Env, resolve}
+use Rattle.rules.proofs.Cases.{OnStep}
+use Rattle.rules.proofs.Keeping.{fresh-says}
 use Rattle.inorder.specs.declared.Register.{Register as InOrderRegister}
 use Rattle.inorder.specs.Machine.{perform, step}
 use Rattle.inorder.specs.Machine as InOrder

@@ -19,10 +19,10 @@ use Rattle.templates.specs.declared.Template.{Template}
 use Rattle.templates.specs.Templates.{template, anyMakes, fillAll, fillRegs}
 use Rattle.templates.specs.Layout.{Mach}
 use Rattle.sound.proofs.Soundness.{Sound, value-made-once, straight}
-use Rattle.renaming.specs.declared.Rule.{Rule}
-use Rattle.renaming.specs.Rules.{Step, holding, apply}
-use Rattle.renaming.proofs.Environment.{Env, resolve}
-use Rattle.renaming.proofs.Cases.{OnStep, Cases, apply-cases}
+use Rattle.rules.specs.declared.Rule.{Rule}
+use Rattle.rules.specs.Rules.{Step, holding, apply}
+use Rattle.rules.proofs.Environment.{Env, resolve}
+use Rattle.rules.proofs.Cases.{OnStep, Cases, apply-cases}
 use Rattle.inorder.specs.declared.Register.{Register}
 use Rattle.demands.proofs.Flush.{execute, flush, finish, begin, nothing, outcome, flush-append, at, flush-at}
 use Rattle.demands.proofs.Filled.{flush-has, has-value, flush-fill, finish-fill}

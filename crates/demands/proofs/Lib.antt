@@ -9,8 +9,6 @@ pub mod Follows
 pub mod Weight
 pub mod Ending
 pub mod Turns
-pub mod Accepted
-pub mod Oldest
 pub mod Draining
 pub mod Agreement
 pub mod Settling

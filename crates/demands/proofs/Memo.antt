@@ -34,14 +34,14 @@ use Rattle.sound.specs.Sound.{isJz, anyJz, endsInJz, soundMach}
 use Rattle.sound.proofs.Basics.{by-test, neither}
 use Rattle.sound.proofs.Soundness.{CounterOk, not-empty}
 use Rattle.sound.proofs.Decides.{new-said, sound-said}
-use Rattle.renaming.specs.declared.Rule.{Rule}
-use Rattle.renaming.specs.declared.Rule.the-variants as Rule
-use Rattle.renaming.specs.declared.Command.{Command}
-use Rattle.renaming.specs.declared.Command.the-variants.{Malformed, Issue, Apply}
-use Rattle.renaming.specs.Rules.{Step, accepted, refused, tried, known, goTo, rule, apply, isFresh, tagOk, issued, issueAt, issueFrom, issue}
-use Rattle.renaming.specs.Schedule.{obey}
-use Rattle.renaming.proofs.Cases.{apply-at}
-use Rattle.demands.specs.Moves.{Refused}
+use Rattle.rules.specs.declared.Rule.{Rule}
+use Rattle.rules.specs.declared.Rule.the-variants as Rule
+use Rattle.rules.specs.declared.Command.{Command}
+use Rattle.rules.specs.declared.Command.the-variants.{Malformed, Issue, Apply}
+use Rattle.rules.specs.Rules.{Step, accepted, refused, tried, known, goTo, rule, apply, isFresh, tagOk, issued, issueAt, issueFrom, issue}
+use Rattle.rules.specs.Schedule.{obey}
+use Rattle.rules.proofs.Cases.{apply-at}
+use Rattle.rules.specs.Moves.{Refused}
 use Rattle.demands.specs.Memo as Memo
 use Rattle.demands.specs.Memo.{Proc, ITB, Fetches, Room, Unused, Renames}
 use Rattle.demands.proofs.Early.{reads}

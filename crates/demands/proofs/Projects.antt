@@ -13,17 +13,17 @@ use Rattle.templates.specs.Layout.{Mach}
 use Rattle.sound.specs.Sound.{soundMach}
 use Rattle.sound.proofs.Soundness.{Sound}
 use Rattle.sound.proofs.Decides.{sound-said}
-use Rattle.renaming.specs.declared.Rule.{Rule}
-use Rattle.renaming.specs.declared.Command.the-variants.{Issue, Apply}
-use Rattle.renaming.specs.Rules.{accepted, issue, apply}
-use Rattle.renaming.specs.Schedule.{obey}
-use Rattle.renaming.specs.Drain.{drain}
+use Rattle.rules.specs.declared.Rule.{Rule}
+use Rattle.rules.specs.declared.Command.the-variants.{Issue, Apply}
+use Rattle.rules.specs.Rules.{accepted, issue, apply}
+use Rattle.rules.specs.Schedule.{obey}
+use Rattle.rules.specs.Drain.{drain}
 use Rattle.isa.proofs.Formed.{AllFormed, program-formed}
-use Rattle.renaming.proofs.Keeping.{apply-keeps-sound, issue-keeps-sound}
+use Rattle.rules.proofs.Keeping.{apply-keeps-sound, issue-keeps-sound}
 use Rattle.inorder.specs.declared.Register.{Register}
 use Rattle.inorder.specs.declared.InOrder.{InOrder}
 use Rattle.inorder.specs.Machine.{step, once}
-use Rattle.demands.specs.Moves.{Move, andThen, continued}
+use Rattle.rules.specs.Moves.{Move, andThen, continued}
 use Rattle.demands.specs.Agrees.{Agrees}
 use Rattle.demands.specs.Memo.{Renames}
 use Rattle.demands.specs.Simulates.{ITBF, Theorem2}

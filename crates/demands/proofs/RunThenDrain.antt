@@ -35,27 +35,27 @@ use Rattle.sound.specs.Sound.{isSound}
 use Rattle.sound.proofs.Basics.{by-test}
 use Rattle.sound.proofs.Soundness.{Sound}
 use Rattle.sound.proofs.Decides.{sound-state}
-use Rattle.renaming.specs.declared.Command.{Command}
-use Rattle.renaming.specs.declared.Command.the-variants.{Malformed, Issue, Apply}
+use Rattle.rules.specs.declared.Command.{Command}
+use Rattle.rules.specs.declared.Command.the-variants.{Malformed, Issue, Apply}
 use Rattle.renaming.specs.declared.Ran.{Ran}
 use Rattle.renaming.specs.declared.Settled.{Settled}
-use Rattle.renaming.specs.Rules.{tried, tagOk, issueAt, issueFrom, issue}
-use Rattle.renaming.specs.Schedule.{obey}
-use Rattle.renaming.specs.Run.{End, commands}
-use Rattle.renaming.specs.Drain.{Drained, drain, blocking, blockedAt, refusal}
+use Rattle.rules.specs.Rules.{tried, tagOk, issueAt, issueFrom, issue}
+use Rattle.rules.specs.Schedule.{obey}
+use Rattle.rules.specs.Run.{End, commands}
+use Rattle.rules.specs.Drain.{Drained, drain, blocking, blockedAt, refusal}
 use Rattle.renaming.specs.Entries.{entered, enteredRun, ended, settled, ran, ranMemory, Runs, drained, drainedMemory, Drains}
-use Rattle.renaming.proofs.Cases.{OnStep, Cases, apply-cases}
+use Rattle.rules.proofs.Cases.{OnStep, Cases, apply-cases}
 use Rattle.isa.proofs.Formed.{program-formed}
 use Rattle.inorder.specs.declared.Ran.{Ran as InOrderRan}
 use Rattle.inorder.specs.Machine as Machine
 use Rattle.inorder.specs.Entries as InOrder
-use Rattle.demands.specs.Schedules.{obeyed}
+use Rattle.rules.specs.Schedules.{obeyed}
 use Rattle.demands.specs.Agrees.{AgreesWith}
 use Rattle.demands.specs.Demand3.{there, inOrder}
 use Rattle.demands.specs.Demand1.{AreBytes}
 use Rattle.demands.specs.RunThenDrain.{Emptied, StoppedAt, SameEnd, RunThenDrain}
 use Rattle.demands.proofs.Turns.{on-each, on-accepted, in-turn}
-use Rattle.demands.proofs.Accepted.{run-accepts}
+use Rattle.rules.proofs.Accepted.{run-accepts}
 use Rattle.demands.proofs.Agreement.{start-sound, run-steps-outcome, demand-3-of-bytes}
 use Rattle.demands.proofs.Demand1.{entered-checked, length-passed}
 use Rattle.demands.proofs.Words.{bytes-run-words}

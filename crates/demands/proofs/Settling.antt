@@ -24,7 +24,7 @@ use Rattle.templates.specs.Templates.{sameTag, template, register, makes, waits
 use Rattle.templates.specs.Layout.{Mach, mach}
 use Rattle.sound.specs.Sound.{isJz, anyJz}
 use Rattle.sound.proofs.Basics.{by-test, neither, same-tag}
-use Rattle.renaming.specs.Rules.{Step, accepted}
+use Rattle.rules.specs.Rules.{Step, accepted}
 use Rattle.demands.proofs.Binding.{bind, bind-itself, bind-other, bind-swap}
 
 -- ---- what each tag stands for: a value, or itself

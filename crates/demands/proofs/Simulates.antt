@@ -16,22 +16,22 @@ use Rattle.templates.specs.Layout.{Mach, mach, start}
 use Rattle.sound.specs.Sound as Sound
 use Rattle.sound.proofs.Soundness.{RegistersOk, Sound}
 use Rattle.sound.proofs.Decides.{sound-said}
-use Rattle.renaming.specs.declared.Command.{Command}
-use Rattle.renaming.specs.declared.Command.the-variants.{Malformed, Issue, Apply}
-use Rattle.renaming.specs.Rules.{Step, accepted, refused, issueAt, issued, issue}
-use Rattle.renaming.specs.Schedule.{obey}
-use Rattle.renaming.specs.Run.{counted}
-use Rattle.renaming.specs.Drain.{drain}
+use Rattle.rules.specs.declared.Command.{Command}
+use Rattle.rules.specs.declared.Command.the-variants.{Malformed, Issue, Apply}
+use Rattle.rules.specs.Rules.{Step, accepted, refused, issueAt, issued, issue}
+use Rattle.rules.specs.Schedule.{obey}
+use Rattle.rules.specs.Run.{counted}
+use Rattle.rules.specs.Drain.{drain}
 use Rattle.isa.proofs.Formed.{AllFormed, program-formed}
-use Rattle.renaming.proofs.Keeping.{obey-keeps-sound}
+use Rattle.rules.proofs.Keeping.{obey-keeps-sound}
 use Rattle.inorder.specs.declared.Register.{Register}
 use Rattle.inorder.specs.declared.InOrder.{InOrder}
 use Rattle.inorder.specs.Machine.{step, once, execute, machine}
 use Rattle.inorder.specs.Machine as Machine
 use Rattle.inorder.specs.Entries as InOrder
 use Rattle.inorder.proofs.Stops.{Stops, once-stops}
-use Rattle.demands.specs.Moves.{Move, move, Refused, andThen, continued}
-use Rattle.demands.specs.Schedules.{obeyed, issues}
+use Rattle.rules.specs.Moves.{Move, move, Refused, andThen, continued}
+use Rattle.rules.specs.Schedules.{obeyed, issues}
 use Rattle.demands.specs.Agrees.{valued, Agrees, Equal}
 use Rattle.demands.specs.Memo.{Fetches}
 use Rattle.demands.specs.MemoBase.{Executes}

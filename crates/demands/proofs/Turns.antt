@@ -11,19 +11,19 @@ use Rattle.isa.specs.declared.Instr.{Instr}
 use Rattle.kernel.specs.Kernel.{Run, stopped}
 use Rattle.templates.specs.Layout.{Mach}
 use Rattle.sound.proofs.Soundness.{Sound}
-use Rattle.renaming.specs.declared.Command.{Command}
-use Rattle.renaming.specs.declared.Command.the-variants.{Malformed, Issue, Apply}
-use Rattle.renaming.specs.Rules.{Step, accepted, refused}
-use Rattle.renaming.specs.Schedule.{obey}
-use Rattle.renaming.specs.Run.{counted}
-use Rattle.renaming.proofs.Cases.{OnStep}
+use Rattle.rules.specs.declared.Command.{Command}
+use Rattle.rules.specs.declared.Command.the-variants.{Malformed, Issue, Apply}
+use Rattle.rules.specs.Rules.{Step, accepted, refused}
+use Rattle.rules.specs.Schedule.{obey}
+use Rattle.rules.specs.Run.{counted}
+use Rattle.rules.proofs.Cases.{OnStep}
 use Rattle.isa.proofs.Formed.{AllFormed}
-use Rattle.renaming.proofs.Keeping.{apply-keeps-sound, obey-keeps-sound}
+use Rattle.rules.proofs.Keeping.{apply-keeps-sound, obey-keeps-sound}
 use Rattle.inorder.specs.declared.Register.{Register}
 use Rattle.inorder.specs.Machine.{steps}
 use Rattle.inorder.proofs.Laws.{stays}
-use Rattle.demands.specs.Moves.{Move, move, andThen, inTurn, continued}
-use Rattle.demands.specs.Schedules.{obeyed, issues}
+use Rattle.rules.specs.Moves.{Move, move, andThen, inTurn, continued}
+use Rattle.rules.specs.Schedules.{obeyed, issues}
 use Rattle.demands.proofs.Flush.{outcome}
 use Rattle.demands.proofs.Keeps.{apply-keeps-outcome}
 use Rattle.demands.proofs.Follows.{issue-steps-outcome}

@@ -17,10 +17,10 @@ use Rattle.templates.specs.declared.Template.{Template}
 use Rattle.templates.specs.declared.Register.{Register}
 use Rattle.templates.specs.Templates.{template, holds, anyHolds, anyReg, fillWork, fillAll, fillRegs}
 use Rattle.templates.specs.Layout.{Mach}
-use Rattle.renaming.specs.declared.Rule.{Rule}
-use Rattle.renaming.specs.Rules.{apply}
-use Rattle.renaming.proofs.Cases.{OnStep, Cases, apply-cases}
-use Rattle.renaming.proofs.Filling.{Under, or-under, templates-under, templates-gone, registers-under, registers-gone}
+use Rattle.rules.specs.declared.Rule.{Rule}
+use Rattle.rules.specs.Rules.{apply}
+use Rattle.rules.proofs.Cases.{OnStep, Cases, apply-cases}
+use Rattle.rules.proofs.Filling.{Under, or-under, templates-under, templates-gone, registers-under, registers-gone}
 
 -- ---- the weight
 

@@ -41,17 +41,17 @@ use Rattle.templates.specs.declared.Counter.the-variants.{At, Stall}
 use Rattle.templates.specs.Templates.{sameTag, template, register, fill, fillWork, fillTemplate, contents}
 use Rattle.templates.specs.Layout.{Mach, start, capacity}
 use Rattle.sound.proofs.Basics.{by-test}
-use Rattle.renaming.specs.declared.Command.{Command}
-use Rattle.renaming.specs.declared.Command.the-variants.{Malformed, Issue, Apply}
-use Rattle.renaming.specs.Rules.{Step, accepted, refused, tried, tagOk, workOf, renamed, issueAt, issueFrom, issue}
-use Rattle.renaming.specs.Schedule.{obey}
-use Rattle.renaming.specs.Run.{run}
-use Rattle.renaming.proofs.Cases.{OnStep, Cases, apply-cases}
+use Rattle.rules.specs.declared.Command.{Command}
+use Rattle.rules.specs.declared.Command.the-variants.{Malformed, Issue, Apply}
+use Rattle.rules.specs.Rules.{Step, accepted, refused, tried, tagOk, workOf, renamed, issueAt, issueFrom, issue}
+use Rattle.rules.specs.Schedule.{obey}
+use Rattle.rules.specs.Run.{run}
+use Rattle.rules.proofs.Cases.{OnStep, Cases, apply-cases}
 use Rattle.records.proofs.Leading.{found-inside}
-use Rattle.demands.specs.Schedules.{obeyed}
+use Rattle.rules.specs.Schedules.{obeyed}
 use Rattle.demands.specs.Demand1.{AreBytes}
 use Rattle.demands.proofs.Turns.{on-each, on-accepted, in-turn}
-use Rattle.demands.proofs.Accepted.{run-accepts}
+use Rattle.rules.proofs.Accepted.{run-accepts}
 
 -- ---- of every element
 

@@ -15,8 +15,8 @@ use Rattle.templates.specs.declared.Counter.the-variants.{At}
 use Rattle.templates.specs.Templates.{register, isMemory}
 use Rattle.templates.specs.Layout.{Mach}
 use Rattle.sound.specs.Sound.{isJz}
-use Rattle.renaming.specs.Rules.{refused, apply}
-use Rattle.renaming.specs.Drain.{asks}
+use Rattle.rules.specs.Rules.{refused, apply}
+use Rattle.rules.specs.Drain.{asks}
 use Rattle.inorder.specs.declared.Register.{Register as InOrderRegister}
 use Rattle.inorder.specs.Entries as InOrder
 

@@ -6,14 +6,14 @@ use lib.ListN.{length}
 use Rattle.value.specs.declared.Value.{Value}
 use Rattle.isa.specs.declared.Instr.{Instr}
 use Rattle.templates.specs.Layout.{Mach, start}
-use Rattle.renaming.specs.declared.Command.{Command}
-use Rattle.renaming.specs.Rules.{accepted}
-use Rattle.renaming.specs.Run.{End, run}
-use Rattle.renaming.specs.Drain.{Drained, drain}
+use Rattle.rules.specs.declared.Command.{Command}
+use Rattle.rules.specs.Rules.{accepted}
+use Rattle.rules.specs.Run.{End, run}
+use Rattle.rules.specs.Drain.{Drained, drain}
 use Rattle.inorder.specs.Machine as Machine
 use Rattle.inorder.specs.Entries as InOrder
-use Rattle.demands.specs.Moves.{Move, Stuck, continued}
-use Rattle.demands.specs.Schedules.{obeyed, issues, RanTo}
+use Rattle.rules.specs.Moves.{Move, Stuck, continued}
+use Rattle.rules.specs.Schedules.{obeyed, issues, RanTo}
 use Rattle.demands.specs.OldestFirst.{DrainsBy}
 use Rattle.demands.specs.Agrees.{AgreesWith}
 use Rattle.demands.specs.Simulates.{Rewrites}

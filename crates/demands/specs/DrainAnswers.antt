@@ -9,7 +9,7 @@ use Rattle.templates.specs.declared.State.{State}
 use Rattle.templates.specs.Layout.{capacity, machOf}
 use Rattle.renaming.specs.declared.Settled.{Settled}
 use Rattle.renaming.specs.Entries.{entered, Drains}
-use Rattle.demands.specs.Moves.{Stuck}
+use Rattle.rules.specs.Moves.{Stuck}
 use Rattle.demands.specs.Agrees.{Blocked}
 
 -- s is the state before the drain; r its answer and b′ the memory after it

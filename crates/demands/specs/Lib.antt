@@ -1,6 +1,4 @@
 -- What the theorems say.
-pub mod Moves
-pub mod Schedules
 pub mod OldestFirst
 pub mod Agrees
 pub mod Demand3

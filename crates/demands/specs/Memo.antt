@@ -26,9 +26,9 @@ use Rattle.templates.specs.declared.Counter.the-variants.{At, Stall}
 use Rattle.templates.specs.Templates.{noTag, template, anyMakes, anyHolds, anyMemory, anyReg, fillAll, fillRegs, contents, put}
 use Rattle.templates.specs.Layout.{Mach, mach, capacity}
 use Rattle.sound.specs.Sound.{lastTag}
-use Rattle.renaming.specs.declared.Rule.the-variants as Rule
-use Rattle.renaming.specs.declared.Command.{Command}
-use Rattle.renaming.specs.declared.Command.the-variants.{Issue, Apply}
+use Rattle.rules.specs.declared.Rule.the-variants as Rule
+use Rattle.rules.specs.declared.Command.{Command}
+use Rattle.rules.specs.declared.Command.the-variants.{Issue, Apply}
 
 -- ---- the memo's terms
 

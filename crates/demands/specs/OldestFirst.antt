@@ -1,30 +1,14 @@
 -- The oldest-first sequence: the lowest place with an allowed rule other than issue, there the lowest rule number, until none.
 use mathlib.Core.Path.{_≡_}
-use Prim.Native.Nat.{ℕ, _<_}
+use Prim.Native.Nat.{ℕ}
 use mathlib.Core.List.{List, [], _∷_}
 use lib.ListN.{length}
 use Rattle.value.specs.declared.Value.{Value}
 use Rattle.templates.specs.Layout.{Mach}
-use Rattle.renaming.specs.declared.Rule.{Rule}
-use Rattle.renaming.specs.declared.Rule.the-variants.{Operate, Forward, Commit, Retire, Load, Store, Jump, NoJump}
-use Rattle.renaming.specs.Rules.{Step, accepted, refused}
-use Rattle.renaming.specs.Drain.{Drained}
-use Rattle.demands.specs.Moves.{Move, move, Refused, Stuck, continued}
-
-abbrev pub number : Rule → ℕ
-number Operate = 2
-number Forward = 3
-number Commit = 4
-number Retire = 5
-number Load = 6
-number Store = 7
-number Jump = 8
-number NoJump = 9
-
--- no rule is allowed at an earlier place, and at its place none of a lower number
-pub record Oldest (v : Move) (σ : Mach) (m : List Value) : Type 0 where
-  pub place : (u : Move) → u .place < v .place → Refused (move u σ m)
-  pub rule : (u : Move) → u .place ≡ v .place → number (u .rule) < number (v .rule) → Refused (move u σ m)
+use Rattle.rules.specs.Rules.{Step, accepted, refused}
+use Rattle.rules.specs.Drain.{Drained}
+use Rattle.rules.specs.Moves.{Move, move, Stuck, continued}
+use Rattle.rules.specs.OldestFirst.{Oldest}
 
 -- it is accepted, and what it leaves has the property
 abbrev pub Leaves : (Mach → List Value → Type 0) → Step → Type 0

@@ -9,15 +9,15 @@ use Rattle.isa.specs.declared.Instr.the-variants.{Loadc, Loadpc, Op, Jz, Load, 
 use Rattle.templates.specs.declared.Counter.the-variants.{At}
 use Rattle.templates.specs.Templates.{noTag}
 use Rattle.templates.specs.Layout.{Mach, mach, start}
-use Rattle.renaming.specs.declared.Rule.{Rule}
-use Rattle.renaming.specs.declared.Command.{Command}
-use Rattle.renaming.specs.declared.Command.the-variants.{Issue, Apply}
-use Rattle.renaming.specs.Rules.{accepted, issue}
-use Rattle.renaming.specs.Drain.{drain}
+use Rattle.rules.specs.declared.Rule.{Rule}
+use Rattle.rules.specs.declared.Command.{Command}
+use Rattle.rules.specs.declared.Command.the-variants.{Issue, Apply}
+use Rattle.rules.specs.Rules.{accepted, issue}
+use Rattle.rules.specs.Drain.{drain}
 use Rattle.inorder.specs.declared.InOrder.{InOrder}
 use Rattle.inorder.specs.Machine as Machine
 use Rattle.inorder.specs.Entries as InOrder
-use Rattle.demands.specs.Schedules.{obeyed, issues}
+use Rattle.rules.specs.Schedules.{obeyed, issues}
 use Rattle.demands.specs.Agrees.{valued, Agrees}
 use Rattle.demands.specs.Memo.{Fetches, Renames}
 use Rattle.demands.specs.MemoBase.{Executes}

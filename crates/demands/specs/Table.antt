@@ -24,11 +24,11 @@ use Rattle.templates.specs.declared.Counter.the-variants.{At, Stall}
 use Rattle.templates.specs.Templates.{template, put}
 use Rattle.templates.specs.Layout.{Mach, mach, start}
 use Rattle.sound.specs.Sound.{soundMach}
-use Rattle.renaming.specs.declared.Rule.the-variants as Rule
-use Rattle.renaming.specs.declared.Command.{Command}
-use Rattle.renaming.specs.declared.Command.the-variants.{Issue, Apply}
-use Rattle.renaming.specs.Rules.{Step, accepted, refused}
-use Rattle.renaming.specs.Schedule.{obey}
+use Rattle.rules.specs.declared.Rule.the-variants as Rule
+use Rattle.rules.specs.declared.Command.{Command}
+use Rattle.rules.specs.declared.Command.the-variants.{Issue, Apply}
+use Rattle.rules.specs.Rules.{Step, accepted, refused}
+use Rattle.rules.specs.Schedule.{obey}
 
 -- ---- cases
 

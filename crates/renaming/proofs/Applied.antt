@@ -28,10 +28,10 @@ use Rattle.templates.specs.declared.State.{State}
 use Rattle.templates.specs.Templates.{anyHolds, anyMemory, anyReg}
 use Rattle.templates.specs.Layout.{Mach, machOf, Laid, capacity}
 use Rattle.templates.proofs.Places.{held-length}
-use Rattle.renaming.specs.declared.Rule.{Rule}
-use Rattle.renaming.specs.declared.Rule.the-variants as Rule
+use Rattle.rules.specs.declared.Rule.{Rule}
+use Rattle.rules.specs.declared.Rule.the-variants as Rule
 use Rattle.renaming.specs.declared.Answer.{Answer}
-use Rattle.renaming.specs.Rules.{Step, refused, tried, known, condition, rule, becomes, goTo, apply, tagOk, issueAt, issueFrom, issue}
+use Rattle.rules.specs.Rules.{Step, refused, tried, known, condition, rule, becomes, goTo, apply, tagOk, issueAt, issueFrom, issue}
 use Rattle.renaming.specs.Answers.{answerOf, memoryOf, Stands, at, Acts}
 use Rattle.renaming.proofs.Changes.{standing}
 

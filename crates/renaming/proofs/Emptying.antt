@@ -30,19 +30,19 @@ use Rattle.templates.specs.Templates.{template, blank, anyHolds, anyReg}
 use Rattle.templates.specs.Layout.{Mach, machOf, Laid}
 use Rattle.templates.proofs.Places.{held-length}
 use Rattle.sound.proofs.Decides.{sound-said}
-use Rattle.renaming.specs.declared.Rule.{Rule}
-use Rattle.renaming.specs.declared.Rule.the-variants as Rule
+use Rattle.rules.specs.declared.Rule.{Rule}
+use Rattle.rules.specs.declared.Rule.the-variants as Rule
 use Rattle.renaming.specs.declared.Answer.{Answer}
 use Rattle.renaming.specs.declared.Settled.{Settled}
-use Rattle.renaming.specs.Rules as Rules
-use Rattle.renaming.specs.Rules.{Step, refused, apply, storing}
+use Rattle.rules.specs.Rules as Rules
+use Rattle.rules.specs.Rules.{Step, refused, apply, storing}
 use Rattle.renaming.specs.Answers.{answerOf, before, behind, Stands, at, Fit, Acts}
-use Rattle.renaming.specs.Drain.{first, rules, firstOf, seek, oldest, Drained, further, drainFrom, drain, due, asks, refusal, blocking, blockedAt, retireRefusal, storeRefusal}
+use Rattle.rules.specs.Drain.{first, rules, firstOf, seek, oldest, Drained, further, drainFrom, drain, due, asks, refusal, blocking, blockedAt, retireRefusal, storeRefusal}
 use Rattle.renaming.specs.Entries.{entered, settled, drained, drainedMemory, Drains, Empties}
 use Rattle.renaming.proofs.Changes.{standing}
 use Rattle.renaming.proofs.Applied.{apply-at}
-use Rattle.renaming.proofs.Keeping.{apply-keeps-sound}
-use Rattle.renaming.proofs.Numbered.{Numbered, apply-numbered}
+use Rattle.rules.proofs.Keeping.{apply-keeps-sound}
+use Rattle.rules.proofs.Numbered.{Numbered, apply-numbered}
 use Rattle.renaming.proofs.Due.{due-first}
 use Rattle.renaming.proofs.Fitting.{acts-accepted, acts-refused, acts-laid}
 

@@ -24,16 +24,16 @@ use Rattle.templates.proofs.Places.{machOf-stateOf, stateOf-laid, held-length}
 use Rattle.sound.specs.Sound.{Produced, none, after, isSound}
 use Rattle.sound.proofs.Soundness.{TemplatesOk, Sound}
 use Rattle.sound.proofs.Decides.{sound-said, sound-laid, sound-machine}
-use Rattle.renaming.specs.declared.Command.{Command}
+use Rattle.rules.specs.declared.Command.{Command}
 use Rattle.renaming.specs.declared.Answer.{Answer}
-use Rattle.renaming.specs.Rules as Rules
-use Rattle.renaming.specs.Rules.{Step, refused}
-use Rattle.renaming.specs.Schedule.{obey}
+use Rattle.rules.specs.Rules as Rules
+use Rattle.rules.specs.Rules.{Step, refused}
+use Rattle.rules.specs.Schedule.{obey}
 use Rattle.renaming.specs.Answers.{Fit, Within, Acts, Obeys}
 use Rattle.renaming.specs.Entries.{entered, Enters}
 use Rattle.isa.proofs.Formed.{program-formed}
-use Rattle.renaming.proofs.Keeping.{StaysSound, obey-keeps-sound}
-use Rattle.renaming.proofs.Numbered.{Numbered, obey-numbered}
+use Rattle.rules.proofs.Keeping.{StaysSound, obey-keeps-sound}
+use Rattle.rules.proofs.Numbered.{Numbered, obey-numbered}
 
 -- ---- what the checks say
 

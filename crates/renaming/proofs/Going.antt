@@ -18,12 +18,12 @@ use Rattle.kernel.proofs.Checking.{refuses, works}
 use Rattle.templates.specs.declared.State.{State}
 use Rattle.templates.specs.Layout.{machOf, stateOf}
 use Rattle.templates.proofs.Places.{stateOf-machOf}
-use Rattle.renaming.specs.declared.Command.{Command}
-use Rattle.renaming.specs.declared.Command.the-variants.{Malformed, Issue, Apply}
+use Rattle.rules.specs.declared.Command.{Command}
+use Rattle.rules.specs.declared.Command.the-variants.{Malformed, Issue, Apply}
 use Rattle.renaming.specs.declared.Answer.{Answer}
 use Rattle.renaming.specs.declared.Ran.{Ran}
-use Rattle.renaming.specs.Schedule.{commandOf, obey}
-use Rattle.renaming.specs.Run.{End, commands, counted, proceed, runFrom}
+use Rattle.rules.specs.Schedule.{commandOf, obey}
+use Rattle.rules.specs.Run.{End, commands, counted, proceed, runFrom}
 use Rattle.renaming.specs.Answers.{Fit, Acts, Obeys}
 use Rattle.renaming.specs.Entries.{entered, enteredWith, once, stepAnswer, stepped, steppedMemory, Steps, enteredRun, runs, ended, ran, ranMemory, Runs, Goes}
 use Rattle.renaming.proofs.Fitting.{acts-refused, acts-stay, obeyed, still-fit}

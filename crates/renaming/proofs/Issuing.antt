@@ -18,7 +18,7 @@ use Rattle.templates.specs.declared.State.{State}
 use Rattle.templates.specs.Templates.{template}
 use Rattle.templates.specs.Layout.{machOf, stateOf, Laid, capacity}
 use Rattle.templates.proofs.Places.{places, held-length, state-snoc}
-use Rattle.renaming.specs.Rules.{accepted, refused, tried, counterAfter, renamed, workOf, tagOk, issued, issueAt, issueFrom, issue}
+use Rattle.rules.specs.Rules.{accepted, refused, tried, counterAfter, renamed, workOf, tagOk, issued, issueAt, issueFrom, issue}
 
 module _ (s : State) (l : Laid s) (t : Tag) (ia : InstrAddr) (i : Instr) (m : List Value) where
   pub issue-full : capacity ≤ s .count → issueAt t (machOf s) m ia i ≡ refused full

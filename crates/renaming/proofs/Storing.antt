@@ -12,7 +12,7 @@ use Rattle.kernel.proofs.Writing.{write-formed}
 use Rattle.templates.specs.declared.State.{State}
 use Rattle.templates.specs.Layout.{machOf}
 use Rattle.renaming.specs.declared.Answer.{Answer}
-use Rattle.renaming.specs.Rules.{holding, storing}
+use Rattle.rules.specs.Rules.{holding, storing}
 use Rattle.renaming.specs.Answers.{answer, done, before, behind, Acts}
 
 module _ (s : State) (p : ℕ) (m : List Value) {b b′ : List ℕ} {r : Answer} (form : Formed b → Formed b′) (same : cells b ≡ m) where

@@ -14,11 +14,11 @@ use Rattle.templates.specs.declared.State.{State}
 use Rattle.templates.specs.Templates.{blank}
 use Rattle.templates.specs.Layout.{Mach, machOf, stateOf, Laid}
 use Rattle.sound.specs.Sound.{soundMach}
-use Rattle.renaming.specs.declared.Rule.{Rule}
-use Rattle.renaming.specs.declared.Command.{Command}
+use Rattle.rules.specs.declared.Rule.{Rule}
+use Rattle.rules.specs.declared.Command.{Command}
 use Rattle.renaming.specs.declared.Answer.{Answer}
-use Rattle.renaming.specs.Rules.{Step, accepted, refused, rule, issue}
-use Rattle.renaming.specs.Schedule.{obey}
+use Rattle.rules.specs.Rules.{Step, accepted, refused, rule, issue}
+use Rattle.rules.specs.Schedule.{obey}
 
 abbrev pub answer : State → ℕ → Answer
 answer s n = record { state = s; refusal = n }

@@ -14,15 +14,15 @@ use Rattle.kernel.specs.Checks.{first, checked, ifChecked}
 use Rattle.templates.specs.declared.State.{State}
 use Rattle.templates.specs.Layout.{capacity, machOf, stateOf}
 use Rattle.sound.specs.Sound.{isSound}
-use Rattle.renaming.specs.declared.Command.{Command}
+use Rattle.rules.specs.declared.Command.{Command}
 use Rattle.renaming.specs.declared.Answer.{Answer}
 use Rattle.renaming.specs.declared.Stepped.{Stepped}
 use Rattle.renaming.specs.declared.Ran.{Ran}
 use Rattle.renaming.specs.declared.Settled.{Settled}
-use Rattle.renaming.specs.Rules.{Step}
-use Rattle.renaming.specs.Schedule.{commandOf, obey}
-use Rattle.renaming.specs.Run.{End, commands, run}
-use Rattle.renaming.specs.Drain.{Drained, drain, blocking, blockedAt}
+use Rattle.rules.specs.Rules.{Step}
+use Rattle.rules.specs.Schedule.{commandOf, obey}
+use Rattle.rules.specs.Run.{End, commands, run}
+use Rattle.rules.specs.Drain.{Drained, drain, blocking, blockedAt}
 use Rattle.renaming.specs.Answers.{answerOf, memoryOf}
 
 -- refusals 1 to 4 of a program, a memory and a state

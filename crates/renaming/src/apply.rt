@@ -1,15 +1,15 @@
 // One rule at one place: the template is found, then its kind, then the rule.
 ghost use Rattle.cells.specs.Cells.{cells};
 ghost use Rattle.templates.specs.Layout.{machOf, Laid};
-ghost use Rattle.renaming.specs.Rules.{apply};
+ghost use Rattle.rules.specs.Rules.{apply};
 ghost use Rattle.renaming.specs.Answers.{Within, Acts};
 use crate::Answer;
-use crate::Rule;
 use crate::change;
 use crate::done;
 use crate::memory;
 use crate::waiting;
 use records::refusal;
+use rules::Rule;
 use templates::State;
 use templates::Work;
 

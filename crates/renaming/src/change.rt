@@ -3,7 +3,7 @@ ghost use mathlib.Core.Path.{_≡_};
 ghost use mathlib.Core.List.{_∷_, _++_};
 ghost use Rattle.templates.specs.Templates.{template, fillAll, fillRegs};
 ghost use Rattle.templates.specs.Layout.{mach, machOf};
-ghost use Rattle.renaming.specs.Rules.{holding};
+ghost use Rattle.rules.specs.Rules.{holding};
 ghost use Rattle.renaming.specs.Answers.{answer, done, before, behind, Stands};
 use crate::Answer;
 use isa::InstrAddr;

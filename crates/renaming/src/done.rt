@@ -1,10 +1,10 @@
 // The rules at a value template: forward, commit, retire.
 ghost use Rattle.renaming.specs.Answers.{Stands, Gives, at};
 use crate::Answer;
-use crate::Rule;
 use crate::change;
 use isa::Tag;
 use records::refusal;
+use rules::Rule;
 use templates::State;
 use templates::Template;
 use templates::Work;

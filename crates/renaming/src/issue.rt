@@ -5,7 +5,7 @@ ghost use lib.ListN.{take};
 ghost use Rattle.records.specs.Scan.{accepted};
 ghost use Rattle.isa.specs.Program.{scanOf};
 ghost use Rattle.templates.specs.Layout.{machOf, Laid};
-ghost use Rattle.renaming.specs.Rules.{isFresh, tagSuits, workOf, renamed, counterAfter, issueAt};
+ghost use Rattle.rules.specs.Rules.{isFresh, tagSuits, workOf, renamed, counterAfter, issueAt};
 ghost use Rattle.renaming.specs.Answers.{Gives, Issues};
 use crate::Answer;
 use crate::change;

@@ -14,25 +14,6 @@ pub use crate::draining::drain;
 pub use crate::entry::step;
 pub use crate::running::run;
 
-// The rules but issue.
-pub enum Rule {
-    Operate,
-    Forward,
-    Commit,
-    Retire,
-    Load,
-    Store,
-    Jump,
-    NoJump,
-}
-
-// A schedule record, read: an issue with a tag, or a rule at a place.
-pub enum Command {
-    Malformed,
-    Issue(isa::Tag),
-    Apply(Rule, usize),
-}
-
 // The state after a rule, and the refusal, 0 if there is none.
 pub struct Answer {
     pub state: templates::State,

@@ -3,14 +3,14 @@ ghost use mathlib.Core.Path.{_≡_};
 ghost use Prim.Native.Nat.{_<_};
 ghost use Rattle.records.specs.Scan.{accepted};
 ghost use Rattle.isa.specs.Program.{scanOf};
-ghost use Rattle.renaming.specs.Run.{counted};
+ghost use Rattle.rules.specs.Run.{counted};
 ghost use Rattle.renaming.specs.Answers.{Fit};
 ghost use Rattle.renaming.specs.Entries.{Goes, Runs};
-use crate::Command;
 use crate::Ran;
 use crate::entry;
 use crate::schedule;
 use records::refusal;
+use rules::Command;
 use templates::State;
 
 fn count(c: Command, issued: usize) -> usize

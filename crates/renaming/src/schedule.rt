@@ -3,16 +3,16 @@ ghost use mathlib.Core.Path.{_≡_};
 ghost use Rattle.records.specs.Scan.{accepted};
 ghost use Rattle.isa.specs.Program.{scanOf};
 ghost use Rattle.templates.specs.Layout.{Laid};
-ghost use Rattle.renaming.specs.Schedule.{applying, issuing, commandOf};
+ghost use Rattle.rules.specs.Schedule.{applying, issuing, commandOf};
 ghost use Rattle.renaming.specs.Answers.{Within, Obeys};
 use crate::Answer;
-use crate::Command;
-use crate::Rule;
 use crate::apply;
 use crate::change;
 use crate::issue;
 use isa::Tag;
 use records::refusal;
+use rules::Command;
+use rules::Rule;
 use templates::State;
 
 fn applying(rule: Rule, place: u8, tag: u8) -> Command

@@ -2,15 +2,15 @@
 ghost use Prim.Native.Nat.{_<_};
 ghost use Rattle.kernel.specs.Kernel.{target};
 ghost use Rattle.templates.specs.Layout.{machOf};
-ghost use Rattle.renaming.specs.Rules.{known, tried, goTo};
+ghost use Rattle.rules.specs.Rules.{known, tried, goTo};
 ghost use Rattle.renaming.specs.Answers.{before, behind, Stands, Gives, at};
 use crate::Answer;
-use crate::Rule;
 use crate::change;
 use isa::InstrAddr;
 use isa::Tag;
 use kernel::Reached;
 use records::refusal;
+use rules::Rule;
 use templates::Operand;
 use templates::State;
 use templates::Template;

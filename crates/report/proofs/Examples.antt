@@ -10,10 +10,10 @@ use Rattle.isa.specs.Program as Program
 use Rattle.cells.specs.Cells as Cells
 use Rattle.kernel.specs.Checks.{checked}
 use Rattle.sound.specs.Sound.{soundMach, isSound}
-use Rattle.renaming.specs.Rules.{issue, apply}
-use Rattle.renaming.specs.Schedule.{commandOf, obey}
-use Rattle.renaming.specs.Run.{commands, runFrom}
-use Rattle.renaming.specs.Drain.{drainFrom, oldest}
+use Rattle.rules.specs.Rules.{issue, apply}
+use Rattle.rules.specs.Schedule.{commandOf, obey}
+use Rattle.rules.specs.Run.{commands, runFrom}
+use Rattle.rules.specs.Drain.{drainFrom, oldest}
 use Rattle.renaming.specs.Entries.{entered, ran, ranMemory, drained, drainedMemory}
 use Rattle.text.specs.Text.{ascii, decimal, numbered}
 use Rattle.report.specs.Lines.{ranText, drainedText, endText, counterText, namedText, valueText, operandText, contentsText}

@@ -1,7 +1,7 @@
 -- `renaming::entry::step` meets its contract.
 use mathlib.Core.Path.{sym, subst, _∙_}
 use native.Mathlib.Omega.{arith}
-use Rattle.renaming.specs.declared.Command.{Command}
+use Rattle.rules.specs.declared.Command.{Command}
 use Rattle.renaming.specs.Answers.{Obeys}
 use Rattle.renaming.proofs.Fitting.{entered-program, entered-memory, entered-fit, fit-within}
 use Rattle.renaming.proofs.Going.{record-length, record-whole, step-refused, step-done}

@@ -1,6 +1,6 @@
 -- `renaming::issue::counter_after` meets its contract.
 use mathlib.Core.Path.{sym, ap}
-use Rattle.renaming.specs.Rules.{counterAfter}
+use Rattle.rules.specs.Rules.{counterAfter}
 use borrow.Author.Needs.{needs}
 use Rattle.renaming.proofs.issue.counter_after.Statement.{statement}
 use Rattle.renaming.proofs.issue.counter_after.Tie as tie

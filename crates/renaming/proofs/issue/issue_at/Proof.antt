@@ -1,6 +1,6 @@
 -- `renaming::issue::issue_at` meets its contract.
 use mathlib.Core.Bool.{Bool}
-use Rattle.renaming.specs.Rules.{tagSuits}
+use Rattle.rules.specs.Rules.{tagSuits}
 use mathlib.Core.Path.{sym, ap, _∙_}
 use borrow.Author.Tests.{not-true, not-false}
 use Rattle.templates.specs.declared.State.{State}

@@ -3,7 +3,7 @@ use mathlib.Core.Path.{refl}
 use Rattle.isa.specs.Program.{program as instructionsOf}
 use Rattle.cells.specs.Cells.{cells}
 use Rattle.templates.specs.Layout.{machOf}
-use Rattle.renaming.specs.Schedule.{obey}
+use Rattle.rules.specs.Schedule.{obey}
 use Rattle.renaming.proofs.Applied.{issue-keeps, acts}
 use borrow.Author.Needs.{needs}
 use Rattle.renaming.proofs.schedule.obey.Statement.{statement}

@@ -1,7 +1,7 @@
 -- `renaming::schedule::read` meets its contract.
 use mathlib.Core.Path.{refl}
 use borrow.Author.Tests.{eq-eqb, ne-eqb}
-use Rattle.renaming.specs.Schedule.{commandOf}
+use Rattle.rules.specs.Schedule.{commandOf}
 use borrow.Author.Needs.{needs}
 use Rattle.renaming.proofs.schedule.read.Statement.{statement}
 use Rattle.renaming.proofs.schedule.read.Tie as tie

@@ -34,16 +34,16 @@ use Rattle.sound.specs.Sound as Sound
 use Rattle.sound.proofs.Basics.{by-test, neither, tags-differ}
 use Rattle.sound.proofs.Soundness.{Ready, New, WorkOk, TemplatesOk, Alone, RegistersOk, CounterOk, Sound, templates-left, templates-right, templates-append, produced-append, also-itself, also-keeps, produced-other, none-holds, any-jz-append, no-jz-append, ends-append, ends-parts, straight, jz-last}
 use Rattle.sound.proofs.Decides.{new-said}
-use Rattle.renaming.specs.declared.Rule.{Rule}
-use Rattle.renaming.specs.declared.Command.{Command}
-use Rattle.renaming.specs.declared.Command.the-variants.{Malformed, Issue, Apply}
-use Rattle.renaming.specs.Rules.{Step, holding, tried, apply, isFresh, tagOk, issued, issueAt, issueFrom, issue}
-use Rattle.renaming.specs.Schedule.{obey}
-use Rattle.renaming.proofs.Cases.{OnStep, Cases, apply-cases}
+use Rattle.rules.specs.declared.Rule.{Rule}
+use Rattle.rules.specs.declared.Command.{Command}
+use Rattle.rules.specs.declared.Command.the-variants.{Malformed, Issue, Apply}
+use Rattle.rules.specs.Rules.{Step, holding, tried, apply, isFresh, tagOk, issued, issueAt, issueFrom, issue}
+use Rattle.rules.specs.Schedule.{obey}
+use Rattle.rules.proofs.Cases.{OnStep, Cases, apply-cases}
 use Rattle.records.proofs.Leading.{found-inside}
 use Rattle.isa.proofs.Formed.{AllFormed, found-formed}
-use Rattle.renaming.proofs.Filling.{templates-fill, produced-fill, registers-fill, any-jz-fill, ends-fill}
-use Rattle.renaming.proofs.Removing.{without-itself, without-all, templates-without, registers-without}
+use Rattle.rules.proofs.Filling.{templates-fill, produced-fill, registers-fill, any-jz-fill, ends-fill}
+use Rattle.rules.proofs.Removing.{without-itself, without-all, templates-without, registers-without}
 
 abbrev pub StaysSound : ℕ → Step → Type 0
 StaysSound k = OnStep (λ σ m. Sound k σ)

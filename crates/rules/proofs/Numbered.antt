@@ -15,12 +15,12 @@ use Rattle.templates.specs.declared.Counter.{Counter}
 use Rattle.templates.specs.declared.Counter.the-variants.{At, Stall}
 use Rattle.templates.specs.Layout.{Mach, capacity}
 use Rattle.sound.proofs.Basics.{by-test}
-use Rattle.renaming.specs.declared.Rule.{Rule}
-use Rattle.renaming.specs.declared.Command.{Command}
-use Rattle.renaming.specs.declared.Command.the-variants.{Malformed, Issue, Apply}
-use Rattle.renaming.specs.Rules.{Step, accepted, refused, tried, apply, tagOk, issueAt, issueFrom, issue}
-use Rattle.renaming.specs.Schedule.{obey}
-use Rattle.renaming.proofs.Cases.{apply-cases}
+use Rattle.rules.specs.declared.Rule.{Rule}
+use Rattle.rules.specs.declared.Command.{Command}
+use Rattle.rules.specs.declared.Command.the-variants.{Malformed, Issue, Apply}
+use Rattle.rules.specs.Rules.{Step, accepted, refused, tried, apply, tagOk, issueAt, issueFrom, issue}
+use Rattle.rules.specs.Schedule.{obey}
+use Rattle.rules.proofs.Cases.{apply-cases}
 
 abbrev pub Numbered : Step → Type 0
 Numbered (accepted σ m) = Unit

@@ -8,14 +8,14 @@ use lib.ListN.{length}
 use borrow.Author.Tests.{le-ltb}
 use Rattle.value.specs.declared.Value.{Value}
 use Rattle.templates.specs.Layout.{Mach}
-use Rattle.renaming.specs.declared.Rule.{Rule}
-use Rattle.renaming.specs.declared.Rule.the-variants.{Operate, Forward, Commit, Retire, Load, Store, Jump, NoJump}
-use Rattle.renaming.specs.declared.Command.the-variants.{Apply}
-use Rattle.renaming.specs.Rules.{Step, accepted, refused, apply}
-use Rattle.renaming.specs.Schedule.{commandOf}
-use Rattle.renaming.specs.Drain.{first, rules, firstOf, seek, oldest}
-use Rattle.demands.specs.Moves.{Move, move, Refused, Stuck}
-use Rattle.demands.specs.OldestFirst.{number, Oldest}
+use Rattle.rules.specs.declared.Rule.{Rule}
+use Rattle.rules.specs.declared.Rule.the-variants.{Operate, Forward, Commit, Retire, Load, Store, Jump, NoJump}
+use Rattle.rules.specs.declared.Command.the-variants.{Apply}
+use Rattle.rules.specs.Rules.{Step, accepted, refused, apply}
+use Rattle.rules.specs.Schedule.{commandOf}
+use Rattle.rules.specs.Drain.{first, rules, firstOf, seek, oldest}
+use Rattle.rules.specs.Moves.{Move, move, Refused, Stuck}
+use Rattle.rules.specs.OldestFirst.{number, Oldest}
 
 -- ---- a rule's number is a schedule's
 

@@ -18,9 +18,9 @@ use Rattle.templates.specs.declared.Template.{Template}
 use Rattle.templates.specs.declared.Register.{Register}
 use Rattle.templates.specs.Templates.{anyHolds, anyReg}
 use Rattle.templates.specs.Layout.{Mach, capacity}
-use Rattle.renaming.specs.declared.Rule.{Rule}
-use Rattle.renaming.specs.declared.Rule.the-variants as Rule
-use Rattle.renaming.specs.Rules.{Step, accepted, refused, apply}
+use Rattle.rules.specs.declared.Rule.{Rule}
+use Rattle.rules.specs.declared.Rule.the-variants as Rule
+use Rattle.rules.specs.Rules.{Step, accepted, refused, apply}
 
 -- ---- the next rule
 

@@ -26,12 +26,12 @@ use Rattle.templates.specs.declared.Work.the-variants.{Done, Op, Jz, Load, Stor
 use Rattle.templates.specs.declared.Template.{Template}
 use Rattle.templates.specs.Templates.{template, blank, anyHolds, anyMemory, anyReg, fillAll, fillRegs}
 use Rattle.templates.specs.Layout.{Mach, mach}
-use Rattle.renaming.specs.declared.Rule.{Rule}
-use Rattle.renaming.specs.declared.Rule.the-variants as Rule
-use Rattle.renaming.specs.Rules.{Step, accepted, refused, holding, tried, known, condition, onValue, onOp, onJz, onLoad, onStore, becomes, goTo, rule, apply}
+use Rattle.rules.specs.declared.Rule.{Rule}
+use Rattle.rules.specs.declared.Rule.the-variants as Rule
+use Rattle.rules.specs.Rules.{Step, accepted, refused, holding, tried, known, condition, onValue, onOp, onJz, onLoad, onStore, becomes, goTo, rule, apply}
 use Rattle.sound.proofs.Basics.{by-test, neither}
-use Rattle.renaming.proofs.Environment.{Env, resolve}
-use Rattle.renaming.proofs.Order.{MayLoad, MayStore, may-load, may-store}
+use Rattle.rules.proofs.Environment.{Env, resolve}
+use Rattle.rules.proofs.Order.{MayLoad, MayStore, may-load, may-store}
 
 -- a property of what an accepted rule leaves
 abbrev pub OnStep : (Mach → List Value → Type 0) → Step → Type 0

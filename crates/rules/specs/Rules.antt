@@ -26,8 +26,8 @@ use Rattle.templates.specs.declared.Counter.the-variants.{At, Stall}
 use Rattle.templates.specs.Templates.{template, blank, anyMakes, anyHolds, anyMemory, anyReg, fillAll, fillRegs, contents, put}
 use Rattle.templates.specs.Layout.{Mach, mach, capacity}
 use Rattle.sound.specs.Sound.{isNew}
-use Rattle.renaming.specs.declared.Rule.{Rule}
-use Rattle.renaming.specs.declared.Rule.the-variants as Rule
+use Rattle.rules.specs.declared.Rule.{Rule}
+use Rattle.rules.specs.declared.Rule.the-variants as Rule
 
 -- a rule is accepted, with the machine and the memory that it leaves, or refused
 pub data Step : Type 0 where

@@ -6,10 +6,10 @@ use Rattle.records.specs.Records.{tabulate}
 use Rattle.value.specs.declared.Value.{Value}
 use Rattle.isa.specs.declared.Instr.{Instr}
 use Rattle.templates.specs.Layout.{Mach}
-use Rattle.renaming.specs.declared.Command.{Command}
-use Rattle.renaming.specs.declared.Command.the-variants.{Malformed, Issue, Apply}
-use Rattle.renaming.specs.Rules.{Step, accepted, refused}
-use Rattle.renaming.specs.Schedule.{commandOf, obey}
+use Rattle.rules.specs.declared.Command.{Command}
+use Rattle.rules.specs.declared.Command.the-variants.{Malformed, Issue, Apply}
+use Rattle.rules.specs.Rules.{Step, accepted, refused}
+use Rattle.rules.specs.Schedule.{commandOf, obey}
 
 -- the commands of a schedule's bytes
 unfoldable pub commands : List ℕ → List Command

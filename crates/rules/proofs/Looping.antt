@@ -6,14 +6,14 @@ use Rattle.value.specs.declared.Value.{Value}
 use Rattle.isa.specs.declared.Instr.{Instr}
 use Rattle.templates.specs.Layout.{Mach}
 use Rattle.sound.proofs.Soundness.{Sound}
-use Rattle.renaming.specs.declared.Rule.{Rule}
-use Rattle.renaming.specs.declared.Command.{Command}
-use Rattle.renaming.specs.Rules.{Step, accepted, refused, apply}
-use Rattle.renaming.specs.Schedule.{obey}
-use Rattle.renaming.specs.Run.{counted, proceed, runFrom}
-use Rattle.renaming.specs.Drain.{first, rules, firstOf, seek, oldest, further, drainFrom}
+use Rattle.rules.specs.declared.Rule.{Rule}
+use Rattle.rules.specs.declared.Command.{Command}
+use Rattle.rules.specs.Rules.{Step, accepted, refused, apply}
+use Rattle.rules.specs.Schedule.{obey}
+use Rattle.rules.specs.Run.{counted, proceed, runFrom}
+use Rattle.rules.specs.Drain.{first, rules, firstOf, seek, oldest, further, drainFrom}
 use Rattle.isa.proofs.Formed.{AllFormed}
-use Rattle.renaming.proofs.Keeping.{StaysSound, apply-keeps-sound, obey-keeps-sound}
+use Rattle.rules.proofs.Keeping.{StaysSound, apply-keeps-sound, obey-keeps-sound}
 
 -- ---- the drain's next rule
 

@@ -10,13 +10,13 @@ use lib.Seq.{take-length}
 use Rattle.value.specs.declared.Value.{Value}
 use Rattle.isa.specs.declared.Instr.{Instr}
 use Rattle.templates.specs.Layout.{Mach}
-use Rattle.renaming.specs.declared.Command.{Command}
-use Rattle.renaming.specs.declared.Command.the-variants.{Malformed, Issue, Apply}
-use Rattle.renaming.specs.Rules.{Step, accepted, refused}
-use Rattle.renaming.specs.Schedule.{obey}
-use Rattle.renaming.specs.Run.{End, counted, proceed, runFrom, run}
-use Rattle.renaming.proofs.Numbered.{Numbered, obey-numbered}
-use Rattle.demands.specs.Schedules.{obeyed, issues, RanTo}
+use Rattle.rules.specs.declared.Command.{Command}
+use Rattle.rules.specs.declared.Command.the-variants.{Malformed, Issue, Apply}
+use Rattle.rules.specs.Rules.{Step, accepted, refused}
+use Rattle.rules.specs.Schedule.{obey}
+use Rattle.rules.specs.Run.{End, counted, proceed, runFrom, run}
+use Rattle.rules.proofs.Numbered.{Numbered, obey-numbered}
+use Rattle.rules.specs.Schedules.{obeyed, issues, RanTo}
 
 -- after n accepted records, k of them issues, a run accepts `more`
 record Further (prog : List Instr) (cs : List Command) (n k : ℕ) (σ : Mach) (m : List Value) (e : End) : Type 0 where

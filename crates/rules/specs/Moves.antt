@@ -3,8 +3,8 @@ use Prim.Native.Nat.{ℕ}
 use mathlib.Core.List.{List, [], _∷_}
 use Rattle.value.specs.declared.Value.{Value}
 use Rattle.templates.specs.Layout.{Mach}
-use Rattle.renaming.specs.declared.Rule.{Rule}
-use Rattle.renaming.specs.Rules.{Step, accepted, refused, apply}
+use Rattle.rules.specs.declared.Rule.{Rule}
+use Rattle.rules.specs.Rules.{Step, accepted, refused, apply}
 
 -- ---- one rule
 

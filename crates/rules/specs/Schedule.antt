@@ -7,11 +7,11 @@ use Rattle.records.specs.Refusal.{badSchedule}
 use Rattle.value.specs.declared.Value.{Value}
 use Rattle.isa.specs.declared.Instr.{Instr}
 use Rattle.templates.specs.Layout.{Mach}
-use Rattle.renaming.specs.declared.Rule.{Rule}
-use Rattle.renaming.specs.declared.Rule.the-variants as Rule
-use Rattle.renaming.specs.declared.Command.{Command}
-use Rattle.renaming.specs.declared.Command.the-variants.{Malformed, Issue, Apply}
-use Rattle.renaming.specs.Rules.{Step, refused, issue, apply}
+use Rattle.rules.specs.declared.Rule.{Rule}
+use Rattle.rules.specs.declared.Rule.the-variants as Rule
+use Rattle.rules.specs.declared.Command.{Command}
+use Rattle.rules.specs.declared.Command.the-variants.{Malformed, Issue, Apply}
+use Rattle.rules.specs.Rules.{Step, refused, issue, apply}
 
 -- place 0 for issue; tag 0 for all others
 abbrev pub applying : Rule → ℕ → ℕ → Command

@@ -7,11 +7,11 @@ use lib.ListN.{length, take}
 use Rattle.value.specs.declared.Value.{Value}
 use Rattle.isa.specs.declared.Instr.{Instr}
 use Rattle.templates.specs.Layout.{Mach}
-use Rattle.renaming.specs.declared.Command.{Command}
-use Rattle.renaming.specs.Rules.{Step, accepted, refused}
-use Rattle.renaming.specs.Schedule.{obey}
-use Rattle.renaming.specs.Run.{End, counted}
-use Rattle.demands.specs.Moves.{inTurn}
+use Rattle.rules.specs.declared.Command.{Command}
+use Rattle.rules.specs.Rules.{Step, accepted, refused}
+use Rattle.rules.specs.Schedule.{obey}
+use Rattle.rules.specs.Run.{End, counted}
+use Rattle.rules.specs.Moves.{inTurn}
 
 abbrev pub obeyed : List Instr → List Command → Mach → List Value → Step
 obeyed prog cs σ m = inTurn (obey prog) cs σ m
