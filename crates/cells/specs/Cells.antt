@@ -15,13 +15,14 @@ use Rattle.records.specs.Records.{records, replaced}
 use Rattle.records.specs.Scan.{scanned}
 use Rattle.value.specs.declared.Value.{Value}
 use Rattle.value.specs.declared.Value.the-variants.{Undefined, Word}
+use Rattle.value.specs.Operation.{undefined}
 use Rattle.isa.specs.declared.DataAddr.{DataAddr}
 use Rattle.cells.specs.declared.Loaded.{Loaded}
 use Rattle.cells.specs.declared.Loaded.the-variants.{Is, Refused}
 
 -- byte 0 is the mark, 1 for a word; what is not marked as a word is undefined
 abbrev pub valueOf : Record → Value
-valueOf r = cond (eqb (r .b0) 1) (Word (r .word)) Undefined
+valueOf r = cond (eqb (r .b0) 1) (Word (r .word)) undefined
 
 -- the mark is 0 or 1, three bytes are zero, and so is the word of an undefined cell
 abbrev pub isCell : Record → Bool

@@ -23,7 +23,7 @@ fn value_of(r: Record) -> Value
     if r.b0 == 1 {
         Value::Word(r.word)
     } else {
-        Value::Undefined
+        value::UNDEFINED
     }
 }
 

@@ -13,7 +13,7 @@ use Rattle.kernel.specs.Kernel.{Run, going, stopped}
 use Rattle.templates.specs.declared.Operand.the-variants.{Known}
 use Rattle.templates.specs.declared.Counter.the-variants.{At}
 use Rattle.templates.specs.Templates.{register}
-use Rattle.templates.specs.Layout.{Mach, start}
+use Rattle.templates.specs.Machine.{Mach, start}
 use Rattle.sound.specs.Sound as Sound
 use Rattle.sound.proofs.Soundness.{RegistersOk, Sound}
 use Rattle.rules.specs.declared.Command.{Command}

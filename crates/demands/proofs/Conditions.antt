@@ -21,11 +21,10 @@ use Rattle.templates.specs.declared.Operand.{Operand}
 use Rattle.templates.specs.declared.Operand.the-variants.{Known, Waits}
 use Rattle.templates.specs.declared.Work.{Work}
 use Rattle.templates.specs.declared.Work.the-variants.{Done, Op, Jz, Load, Store}
-use Rattle.templates.specs.declared.Template.{Template}
 use Rattle.templates.specs.declared.Counter.{Counter}
 use Rattle.templates.specs.declared.Counter.the-variants.{At, Stall}
-use Rattle.templates.specs.Templates.{blank, anyHolds, anyMemory, anyReg}
-use Rattle.templates.specs.Layout.{Mach, capacity}
+use Rattle.templates.specs.Templates.{anyReg}
+use Rattle.templates.specs.Machine.{Itb, nothing, anyHolds, anyMemory, Mach, room}
 use Rattle.sound.proofs.Basics.{by-test}
 use Rattle.rules.specs.declared.Rule.{Rule}
 use Rattle.rules.specs.declared.Rule.the-variants as Rule
@@ -92,7 +91,7 @@ is-past (y ∷ xs) (suc k) e = let l = is-past xs k e in omega (arith, l)
 
 -- ---- the rules but issue
 
-module _ (σ : Mach) (m : List Value) (pre : List Template) (a : InstrAddr) (post : List Template) where
+module _ (σ : Mach) (m : List Value) (pre : List Itb) (a : InstrAddr) (post : List Itb) where
   abbrev Here : Rule → Work → Type 0
   Here r w = Said (rule r σ m pre a post w) (needs σ m pre post w r)
 
@@ -207,19 +206,19 @@ module _ (σ : Mach) (m : List Value) (pre : List Template) (a : InstrAddr) (pos
 module _ (prog : List Instr) (σ : Mach) (m : List Value) where
   fetched-said : (t : Tag) (ia : InstrAddr) (o : Option Instr)
       → Said (tried (issueAt t σ m ia) (present o))
-      ((isThere o else noInstruction) ∷ (ltb (length (σ .held)) capacity else full) ∷ (tagFits (σ .held) t o else badTag) ∷ [])
+      ((isThere o else noInstruction) ∷ (ltb (length (σ .held)) room else full) ∷ (tagFits (σ .held) t o else badTag) ∷ [])
   fetched-said t ia none = missed
   fetched-said t ia (some i) =
       passed
-      (by-test (λ s. Said s ((ltb (length (σ .held)) capacity else full) ∷ (tagOk (σ .held) t i else badTag) ∷ [])) (leb capacity (length (σ .held)))
-      (λ h. rw (le-ltb (length (σ .held)) capacity (leb-true capacity (length (σ .held)) h)) missed)
-      (λ h. given (lt-ltb (length (σ .held)) capacity (leb-false capacity (length (σ .held)) h)) (tested (tagOk (σ .held) t i) met)))
+      (by-test (λ s. Said s ((ltb (length (σ .held)) room else full) ∷ (tagOk (σ .held) t i else badTag) ∷ [])) (leb room (length (σ .held)))
+      (λ h. rw (le-ltb (length (σ .held)) room (leb-true room (length (σ .held)) h)) missed)
+      (λ h. given (lt-ltb (length (σ .held)) room (leb-false room (length (σ .held)) h)) (tested (tagOk (σ .held) t i) met)))
 
   issue-said : (t : Tag) (pc : Counter)
       → Said (issueFrom t σ m prog pc)
       ((isAddress pc else stalled)
       ∷ (isThere (instrAt prog pc) else noInstruction)
-      ∷ (ltb (length (σ .held)) capacity else full)
+      ∷ (ltb (length (σ .held)) room else full)
       ∷ (tagFits (σ .held) t (instrAt prog pc) else badTag)
       ∷ [])
   issue-said t (At ia) = passed (fetched-said t ia (getElem? prog (ia .0)))
@@ -230,7 +229,7 @@ module _ (prog : List Instr) (σ : Mach) (m : List Value) where
   obey-said Malformed = missed
   obey-said (Issue t) = issue-said t (σ .counter)
   obey-said (Apply r k) =
-      let x = getD (σ .held) k blank in
+      let x = getD (σ .held) k nothing in
       tested (ltb k (length (σ .held))) (rule-said σ m (take k (σ .held)) (x .address) (drop (suc k) (σ .held)) r (x .work))
 
   -- ---- demand 2's refusals

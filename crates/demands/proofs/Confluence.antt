@@ -20,11 +20,10 @@ use Rattle.templates.specs.declared.Operand.{Operand}
 use Rattle.templates.specs.declared.Operand.the-variants.{Known, Waits}
 use Rattle.templates.specs.declared.Work.{Work}
 use Rattle.templates.specs.declared.Work.the-variants.{Done, Op, Jz, Load, Store}
-use Rattle.templates.specs.declared.Template.{Template}
 use Rattle.templates.specs.declared.Register.{Register}
 use Rattle.templates.specs.declared.Counter.the-variants.{At}
-use Rattle.templates.specs.Templates.{template, register, anyMakes, anyMemory, fillAll, fillRegs}
-use Rattle.templates.specs.Layout.{Mach, mach}
+use Rattle.templates.specs.Templates.{register, fillRegs}
+use Rattle.templates.specs.Machine.{Itb, ITB, anyMakes, anyMemory, fillAll, Mach, mach}
 use Rattle.sound.proofs.Soundness.{Sound, value-made-once, straight}
 use Rattle.rules.specs.declared.Rule.{Rule}
 use Rattle.rules.specs.declared.Rule.the-variants as Rule
@@ -54,7 +53,7 @@ module _ (a : InstrAddr) (ia : InstrAddr) (e : Stands) where
   branched-to (Word w) (Known v) b = b nothing
   branched-to (Word w) (Waits t) b = not-taken (eqb w 0) t (b nothing)
 
-module _ (k : ℕ) (σ : Mach) (m : List Value) (pre : List Template) (a : InstrAddr) (post : List Template) where
+module _ (k : ℕ) (σ : Mach) (m : List Value) (pre : List Itb) (a : InstrAddr) (post : List Itb) where
   -- when the front has had its turn; and then the rest
   abbrev front : Way
   front = settle pre (outset (σ .counter) m)
@@ -63,12 +62,12 @@ module _ (k : ℕ) (σ : Mach) (m : List Value) (pre : List Template) (a : Instr
   rest s = close (σ .registers) (settle post s)
 
   abbrev Was : Work → Type 0
-  Was w = Sound k (holding σ (pre ++ template a w ∷ post))
+  Was w = Sound k (holding σ (pre ++ ITB a w ∷ post))
 
-  whole : (w : Work) → settled (holding σ (pre ++ template a w ∷ post)) m ≡ rest (turn a w front)
-  whole w = ap (close (σ .registers)) (settle-append pre (template a w ∷ post) (outset (σ .counter) m))
+  whole : (w : Work) → settled (holding σ (pre ++ ITB a w ∷ post)) m ≡ rest (turn a w front)
+  whole w = ap (close (σ .registers)) (settle-append pre (ITB a w ∷ post) (outset (σ .counter) m))
 
-  same : (w : Work) (o : Step) (s : Way) → o ≡ rest s → s ≡ turn a w front → o ≡ settled (holding σ (pre ++ template a w ∷ post)) m
+  same : (w : Work) (o : Step) (s : Way) → o ≡ rest s → s ≡ turn a w front → o ≡ settled (holding σ (pre ++ ITB a w ∷ post)) m
   same w o s e f = e ∙ ap rest f ∙ sym (whole w)
 
   unmade : (t : Tag) (v : Value) → Was (Done t v) → anyMakes t post ≡ false
@@ -81,17 +80,17 @@ module _ (k : ℕ) (σ : Mach) (m : List Value) (pre : List Template) (a : Instr
   abbrev later : Tag → Value → Way
   later t v = settle post (bound t v front)
 
-  settled-cases : Cases σ m pre a post (λ w r. Was w → OnStep (λ σ′ m′. settled σ′ m′ ≡ settled (holding σ (pre ++ template a w ∷ post)) m) r)
+  settled-cases : Cases σ m pre a post (λ w r. Was w → OnStep (λ σ′ m′. settled σ′ m′ ≡ settled (holding σ (pre ++ ITB a w ∷ post)) m) r)
   settled-cases =
       record {
         refuses = λ w n e s. tt;
         operates = λ t n u v s. same (Op t n (Known u) (Known v)) _ _ (whole (Done t (result n u v))) refl;
         forwards = λ t v h s.
-            ap (close (σ .registers)) (settle-append pre (template a (Done t v) ∷ fillAll t v post) (outset (σ .counter) m)
+            ap (close (σ .registers)) (settle-append pre (ITB a (Done t v) ∷ fillAll t v post) (outset (σ .counter) m)
             ∙ settle-fill t v post (bound t v front) (unmade t v s) (has-bound t v front))
             ∙ sym (whole (Done t v));
         commits = λ t v h s.
-            ap (close (fillRegs t v (σ .registers))) (settle-append pre (template a (Done t v) ∷ post) (outset (σ .counter) m))
+            ap (close (fillRegs t v (σ .registers))) (settle-append pre (ITB a (Done t v) ∷ post) (outset (σ .counter) m))
             ∙ ap (λ (rf : List Register). accepted (mach (later t v .counter) rf (later t v .kept)) (later t v .memory))
             (put-regs-fill t v (later t v .tags) (settle-has t v post (bound t v front) (unmade t v s) (has-bound t v front)) (σ .registers))
             ∙ sym (whole (Done t v));
@@ -112,7 +111,7 @@ module _ (k : ℕ) (σ : Mach) (m : List Value) (pre : List Template) (a : Instr
         jumps = λ u y ia b s.
             let w = Jz (Known u) y in
             same w _ _ (ap (close (σ .registers)) (settle-append pre post (outset (At ia) m)))
-            (settle-turned ia pre (outset (σ .counter) m) (straight (template a w) post (σ .counter) pre (s .counter))
+            (settle-turned ia pre (outset (σ .counter) m) (straight (ITB a w) post (σ .counter) pre (s .counter))
             ∙ ap (either (λ ia. turned ia front) (keep a (Jz (Known u) (put (front .tags) y)) front)) (sym (branched-to a ia (front .tags) u y b)));
       }
 
@@ -148,10 +147,10 @@ put-regs-itself (r ∷ rf) = ap₂ (λ x y. register x ∷ y) (put-itself (r .ho
 
 module _ (σ : Mach) (m : List Value) where
   -- with the templates before kept
-  abbrev way : List Template → Way
+  abbrev way : List Itb → Way
   way pre = record { tags = itself; counter = σ .counter; kept = pre; memory = m }
 
-  module _ (pre : List Template) (a : InstrAddr) (post : List Template) where
+  module _ (pre : List Itb) (a : InstrAddr) (post : List Itb) where
     load-kept : (t : Tag) (o : Way) (earlier : Bool) (r : Try Value)
         → Refused (cond earlier (refused earlierMemory) (tried (λ v. becomes σ m pre a post (Done t v)) r))
         → either (λ v. bound t v (way pre)) o (cond earlier (fails earlierMemory) r) ≡ o
@@ -189,7 +188,7 @@ module _ (σ : Mach) (m : List Value) where
     kept (Store (Known u) (Waits s)) f = refl
     kept (Store (Waits s) y) f = refl
 
-  all-kept : (pre xs : List Template) → σ .held ≡ pre ++ xs → Stuck σ m → settle xs (way pre) ≡ way (pre ++ xs)
+  all-kept : (pre xs : List Itb) → σ .held ≡ pre ++ xs → Stuck σ m → settle xs (way pre) ≡ way (pre ++ xs)
   all-kept pre [] e f = ap way (sym (append-nil pre))
   all-kept pre (x ∷ xs) e f =
       let here = kept pre (x .address) xs (x .work) (λ r. subst Refused (apply-at r σ m pre x xs e) (f (record { rule = r; place = length pre }))) in

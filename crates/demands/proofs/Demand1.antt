@@ -46,7 +46,8 @@ use Rattle.rules.specs.Rules.{Step}
 use Rattle.rules.specs.Run.{End, commands}
 use Rattle.rules.specs.Run as Run
 use Rattle.renaming.specs.Answers.{answerOf, memoryOf}
-use Rattle.renaming.specs.Entries.{entered, enteredWith, once, stepAnswer, stepped, steppedMemory, enteredRun, runs, ended, ran, ranMemory, Runs}
+use Rattle.entry.specs.Entry.{entered}
+use Rattle.renaming.specs.Entries.{enteredWith, once, stepAnswer, stepped, steppedMemory, enteredRun, runs, ended, ran, ranMemory, Runs}
 use Rattle.renaming.proofs.Going.{run-refused, schedule-whole, commandAt}
 use Rattle.renaming.proofs.Emptying.{drain-refused}
 use Rattle.report.specs.declared.Reported.{Reported}

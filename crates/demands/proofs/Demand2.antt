@@ -11,10 +11,12 @@ use Rattle.kernel.specs.Checks.{checked}
 use Rattle.kernel.specs.Kernel.{Run, going, stopped}
 use Rattle.kernel.proofs.Checking.{works, checked-memory}
 use Rattle.templates.specs.declared.State.{State}
-use Rattle.templates.specs.Layout.{Mach, capacity, machOf, stateOf}
+use Rattle.templates.specs.Machine.{Mach}
+use Rattle.templates.specs.Layout.{places, machOf, stateOf}
 use Rattle.rules.specs.Rules.{Step, accepted, refused}
 use Rattle.renaming.specs.Answers.{answerOf, memoryOf}
-use Rattle.renaming.specs.Entries.{entered, enteredWith, command, once, stepAnswer, stepped, steppedMemory}
+use Rattle.entry.specs.Entry.{entered}
+use Rattle.renaming.specs.Entries.{enteredWith, command, once, stepAnswer, stepped, steppedMemory}
 use Rattle.renaming.proofs.Going.{record-whole}
 use Rattle.renaming.proofs.Fitting.{entered-memory, entered-fit}
 use Rattle.inorder.specs.declared.Register.{Register}
@@ -31,7 +33,7 @@ use Rattle.demands.proofs.Stopping.{Says, once-says, stopped-first}
 
 -- ---- the renaming machine: a record of 4 bytes, on a program, a memory and a state that pass the checks
 
-module _ (p b : List ℕ) (s : State) (one : List ℕ) (bytes : (i : ℕ) → getD b i 0 < 256) (long : length (s .templates) ≡ capacity)
+module _ (p b : List ℕ) (s : State) (one : List ℕ) (bytes : (i : ℕ) → getD b i 0 < 256) (long : length (s .templates) ≡ places)
     (four : length one ≡ 4) (ok : entered p b s .refusal ≡ 0) where
   answers : (t : Step) → once p s b one ≡ t
       → (stepped p s b one ≡ stepAnswer (answerOf s t)) × (steppedMemory p s b one ≡ image (memoryOf (cells b) t))

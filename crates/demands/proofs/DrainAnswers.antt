@@ -14,10 +14,10 @@ use Rattle.cells.proofs.Memory.{length-cells}
 use Rattle.kernel.specs.Kernel.{Run, going, stopped}
 use Rattle.kernel.proofs.Checking.{works}
 use Rattle.templates.specs.declared.Work.{Work}
-use Rattle.templates.specs.declared.Template.{Template}
 use Rattle.templates.specs.declared.State.{State}
-use Rattle.templates.specs.Templates.{blank, operandAt}
-use Rattle.templates.specs.Layout.{Mach, machOf}
+use Rattle.templates.specs.Templates.{operandAt}
+use Rattle.templates.specs.Machine.{Itb, nothing, Mach}
+use Rattle.templates.specs.Layout.{machOf}
 use Rattle.templates.proofs.Places.{machOf-stateOf, held-length}
 use Rattle.sound.proofs.Soundness.{Sound}
 use Rattle.sound.proofs.Decides.{sound-said}
@@ -27,7 +27,8 @@ use Rattle.rules.specs.declared.Command.the-variants.{Apply}
 use Rattle.rules.specs.Rules.{Step, accepted, refused, apply}
 use Rattle.rules.specs.Schedule.{obey}
 use Rattle.rules.specs.Drain.{Drained, drain, asks, refusal, blocking, blockedAt}
-use Rattle.renaming.specs.Entries.{entered, settled, drained, drainedMemory}
+use Rattle.entry.specs.Entry.{entered}
+use Rattle.renaming.specs.Entries.{settled, drained, drainedMemory}
 use Rattle.renaming.proofs.Fitting.{entered-fit}
 use Rattle.inorder.specs.declared.Register.{Register}
 use Rattle.rules.specs.Moves.{move, Refused, Stuck}
@@ -48,7 +49,7 @@ module _ (σ : Mach) (m m′ : List Value) (e : length m ≡ length m′) where
   within-alike Undefined = refl
   within-alike (Word w) = ap (ltb w) e
 
-  needs-alike : (pre post : List Template) (w : Work) (r : Rule) → needs σ m pre post w r ≡ needs σ m′ pre post w r
+  needs-alike : (pre post : List Itb) (w : Work) (r : Rule) → needs σ m pre post w r ≡ needs σ m′ pre post w r
   needs-alike pre post w Rule.Operate = refl
   needs-alike pre post w Rule.Forward = refl
   needs-alike pre post w Rule.Commit = refl
@@ -61,7 +62,7 @@ module _ (σ : Mach) (m m′ : List Value) (e : length m ≡ length m′) where
   refused-alike : (r : Rule) (k n : ℕ) → apply r k σ m ≡ refused n → apply r k σ m′ ≡ refused n
   unfolding obey
   refused-alike r k n h =
-      let same = needs-alike (take k (σ .held)) (drop (suc k) (σ .held)) (getD (σ .held) k blank .work) r in
+      let same = needs-alike (take k (σ .held)) (drop (suc k) (σ .held)) (getD (σ .held) k nothing .work) r in
       refused-first [] σ m′ (Apply r k) n .1
       (subst (λ (cs : List Condition). FirstFails n ((ltb k (length (σ .held)) else noTemplate) ∷ cs)) same (refused-first [] σ m (Apply r k) n .0 h))
 
@@ -91,7 +92,7 @@ module _ (k : ℕ) (σ : Mach) (m : List Value) (s : Sound k σ) where
   Ends = ((settled d .state .count ≡ 0) × (settled d .refusal ≡ 0)) ⊎ Blocked (settled d .address) (settled d .refusal) after (d .machine) after
 
   says : (o : Run (List Register)) → Agrees o (d .machine) after → Ends
-  says (going rf ia l) g = inl (ap (λ (ts : List Template). length ts) (g .empty), ap (blocking (d .machine) (d .memory)) (g .empty))
+  says (going rf ia l) g = inl (ap (λ (ts : List Itb). length ts) (g .empty), ap (blocking (d .machine) (d .memory)) (g .empty))
   says (stopped ia why l) g =
       let number : settled d .refusal ≡ why =
       ap (blocking (d .machine) (d .memory)) (g .held)

@@ -5,7 +5,7 @@ use mathlib.Core.Path.{_≡_, refl, sym, ap, ap₂, _∙_}
 use mathlib.Core.List.{List, [], _∷_}
 use lib.ListN.{length}
 use Rattle.value.specs.declared.Value.{Value}
-use Rattle.templates.specs.Layout.{Mach, capacity}
+use Rattle.templates.specs.Machine.{Mach, room}
 use Rattle.rules.specs.Rules.{Step, accepted, refused}
 use Rattle.rules.specs.Drain.{Drained, further, oldest, drainFrom, drain}
 use Rattle.rules.specs.Moves.{Move, move, Refused, Stuck, andThen, continued}
@@ -117,12 +117,12 @@ sequence (suc fuel) σ m l = which (oldest σ m) (found σ m) (λ τ k. sequence
         one-more σ m (f .0) (f .1) (f .2) (rest τ k (omega arith))
     which (refused n) f rest = record { moves = []; machine = σ; memory = m; first = f; leaves = refl }
 
-module _ (σ : Mach) (m : List Value) (few : length (σ .held) ≤ capacity) where
+module _ (σ : Mach) (m : List Value) (few : length (σ .held) ≤ room) where
   pub drains : (vs : List Move) × DrainsBy vs σ m (drain σ m)
   drains =
       let s = sequence (suc (weight σ)) σ m (omega arith) in
       let bounded = continued-bounded (s .moves) σ m (s .leaves) in
-      let all = drain-goes (s .moves) (4 * capacity) 0 σ m (s .first) (s .leaves) (omega arith) in
+      let all = drain-goes (s .moves) (4 * room) 0 σ m (s .first) (s .leaves) (omega arith) in
       let count : drain σ m .rules ≡ 0 + length (s .moves) = ap (λ (d : Drained). d .rules) all in (
         s .moves,
         record {

@@ -20,7 +20,7 @@ use Rattle.templates.specs.declared.Operand.{Operand}
 use Rattle.templates.specs.declared.Operand.the-variants.{Known, Waits}
 use Rattle.templates.specs.declared.Work.{Work}
 use Rattle.templates.specs.declared.Work.the-variants.{Done, Op, Jz, Load, Store}
-use Rattle.templates.specs.declared.Template.{Template}
+use Rattle.templates.specs.Machine.{Itb}
 use Rattle.sound.specs.Sound.{isJz, anyJz}
 use Rattle.sound.proofs.Basics.{neither}
 use Rattle.rules.proofs.Environment.{Env, resolve}
@@ -70,7 +70,7 @@ module _ (x size : ℕ) (v : Value) where
   same-execute a (Store (Known Undefined) d) (going e p m) g h = absurd g
   same-execute a (Store (Waits t) d) (going e p m) g h = absurd g
 
-  pub same-flush : (xs : List Template) (r : Run Env) → Each (LetsLoad x size) xs → Same r → Same (flush xs r)
+  pub same-flush : (xs : List Itb) (r : Run Env) → Each (LetsLoad x size) xs → Same r → Same (flush xs r)
   same-flush [] r g h = h
   same-flush (y ∷ xs) r g h = same-flush xs (execute (y .address) (y .work) r) (g .1) (same-execute (y .address) (y .work) r (g .0) h)
 
@@ -121,7 +121,7 @@ module _ (x size : ℕ) (v : Value) where
   sized-execute a (Store (Known Undefined) d) (going e p m) g j h = absurd g
   sized-execute a (Store (Waits s) d) (going e p m) g j h = absurd g
 
-  pub sized-flush : (xs : List Template) (r : Run Env) → Each (LetsStore x size) xs → anyJz xs ≡ false → Sized r
+  pub sized-flush : (xs : List Itb) (r : Run Env) → Each (LetsStore x size) xs → anyJz xs ≡ false → Sized r
       → (flush xs (wrote r) ≡ wrote (flush xs r)) × Sized (flush xs r)
   sized-flush [] r g j h = (refl, h)
   sized-flush (y ∷ xs) r g j h =

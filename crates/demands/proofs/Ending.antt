@@ -20,12 +20,11 @@ use Rattle.templates.specs.declared.Operand.{Operand}
 use Rattle.templates.specs.declared.Operand.the-variants.{Known, Waits}
 use Rattle.templates.specs.declared.Work.{Work}
 use Rattle.templates.specs.declared.Work.the-variants.{Done, Op, Jz, Load, Store}
-use Rattle.templates.specs.declared.Template.{Template}
 use Rattle.templates.specs.declared.Register.{Register}
 use Rattle.templates.specs.declared.Counter.{Counter}
 use Rattle.templates.specs.declared.Counter.the-variants.{At, Stall}
-use Rattle.templates.specs.Templates.{template, register, isMemory, anyHolds, anyReg, fillAll, fillRegs}
-use Rattle.templates.specs.Layout.{Mach, mach}
+use Rattle.templates.specs.Templates.{register, isMemory, anyReg, fillRegs}
+use Rattle.templates.specs.Machine.{Itb, ITB, anyHolds, fillAll, Mach, mach}
 use Rattle.sound.specs.Sound.{isJz}
 use Rattle.sound.specs.Sound as Sound
 use Rattle.sound.proofs.Soundness.{Ready, WorkOk, RegistersOk, Sound}
@@ -73,18 +72,18 @@ was-true true σ m n h = refl
 was-true false σ m n h = absurd h
 
 -- a value template can be forwarded, committed or retired
-pub no-value : (σ : Mach) (m : List Value) (pre : List Template) (a : InstrAddr) (post : List Template) (t : Tag) (v : Value)
+pub no-value : (σ : Mach) (m : List Value) (pre : List Itb) (a : InstrAddr) (post : List Itb) (t : Tag) (v : Value)
     → ((r : Rule) → Refused (rule r σ m pre a post (Done t v))) → ⊥
 no-value σ m pre a post t v f =
-    let later = was-false (anyHolds t post) (Rules.holding σ (pre ++ template a (Done t v) ∷ fillAll t v post)) m notHeld (f Rule.Forward) in
+    let later = was-false (anyHolds t post) (Rules.holding σ (pre ++ ITB a (Done t v) ∷ fillAll t v post)) m notHeld (f Rule.Forward) in
     let register =
-    was-false (anyReg t (σ .registers)) (mach (σ .counter) (fillRegs t v (σ .registers)) (pre ++ template a (Done t v) ∷ post)) m notHeld (f Rule.Commit) in
+    was-false (anyReg t (σ .registers)) (mach (σ .counter) (fillRegs t v (σ .registers)) (pre ++ ITB a (Done t v) ∷ post)) m notHeld (f Rule.Commit) in
     let some = was-true (anyReg t (σ .registers) || anyHolds t post) (Rules.holding σ (pre ++ post)) m stillHeld (f Rule.Retire) in
     true≢false (sym some ∙ rw (register, later))
 
 -- ---- the oldest template, of address a and with xs behind it, when no rule at its place is allowed
 
-module _ (σ : Mach) (m : List Value) (a : InstrAddr) (xs : List Template) where
+module _ (σ : Mach) (m : List Value) (a : InstrAddr) (xs : List Itb) where
   pub record Facing (w : Work) : Type 0 where
     why : ℕ
     stops : execute a w (begin σ m) ≡ stopped a why m
@@ -136,7 +135,7 @@ known-registers [] h = refl
 known-registers (r ∷ rf) h = ap₂ (λ x y. register x ∷ y) (known-operand (r .holds) (h .0)) (known-registers rf (h .2))
 
 module _ (k : ℕ) (σ : Mach) (m : List Value) where
-  agrees : (c : Counter) (ts : List Template) → let τ = mach c (σ .registers) ts in Sound k τ → Stuck τ m → Agrees (outcome τ m) τ m
+  agrees : (c : Counter) (ts : List Itb) → let τ = mach c (σ .registers) ts in Sound k τ → Stuck τ m → Agrees (outcome τ m) τ m
   agrees (At p) [] s f = record { empty = refl; counter = refl; registers = known-registers (σ .registers) (s .registers); memory = refl }
   agrees Stall [] s f = absurd (false≢true (s .counter))
   agrees c (x ∷ xs) s f =

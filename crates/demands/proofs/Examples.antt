@@ -14,7 +14,7 @@ use Rattle.kernel.specs.Kernel.{instrAddr}
 use Rattle.templates.specs.declared.Operand.the-variants.{Waits}
 use Rattle.templates.specs.declared.Counter.the-variants.{At}
 use Rattle.templates.specs.Templates.{put}
-use Rattle.templates.specs.Layout.{start}
+use Rattle.templates.specs.Machine.{start}
 use Rattle.rules.specs.declared.Command.{Command}
 use Rattle.rules.specs.declared.Command.the-variants.{Issue}
 use Rattle.rules.specs.Rules.{issue, apply}

@@ -12,9 +12,9 @@ use Rattle.templates.specs.declared.Operand.{Operand}
 use Rattle.templates.specs.declared.Operand.the-variants.{Known, Waits}
 use Rattle.templates.specs.declared.Work.{Work}
 use Rattle.templates.specs.declared.Work.the-variants.{Done, Op, Jz, Load, Store}
-use Rattle.templates.specs.declared.Template.{Template}
 use Rattle.templates.specs.declared.Register.{Register}
-use Rattle.templates.specs.Templates.{sameTag, makes, anyMakes, fill, fillWork, fillAll, fillRegs}
+use Rattle.templates.specs.Templates.{sameTag, makes, fill, fillWork, fillRegs}
+use Rattle.templates.specs.Machine.{Itb, anyMakes, fillAll}
 use Rattle.sound.proofs.Basics.{by-test, neither, same-tag}
 use Rattle.rules.proofs.Environment.{Env, resolve}
 use Rattle.inorder.specs.Machine as InOrder
@@ -40,7 +40,7 @@ module _ (t : Tag) (v : Value) where
   execute-has a (Load s x) (going e p m) d h = has-attempt a m (λ u. going (bind s u e) p m) (λ u. bind-other t v e s u h d) (readAt m (resolve e x))
   execute-has a (Store x y) (going e p m) d h = has-attempt a m (λ m′. going e p m′) (λ _. h) (writeAt m (resolve e x) (resolve e y))
 
-  pub flush-has : (xs : List Template) (r : Run Env) → anyMakes t xs ≡ false → Has r → Has (flush xs r)
+  pub flush-has : (xs : List Itb) (r : Run Env) → anyMakes t xs ≡ false → Has r → Has (flush xs r)
   flush-has [] r d h = h
   flush-has (x ∷ xs) r d h =
       let n = neither (sameTag (makes (x .work)) t) (anyMakes t xs) d in
@@ -64,7 +64,7 @@ module _ (t : Tag) (v : Value) where
   execute-fill a (Load s x) (going e p m) h = rw (resolve-fill e h x)
   execute-fill a (Store x y) (going e p m) h = rw (resolve-fill e h x, resolve-fill e h y)
 
-  pub flush-fill : (xs : List Template) (r : Run Env) → anyMakes t xs ≡ false → Has r → flush (fillAll t v xs) r ≡ flush xs r
+  pub flush-fill : (xs : List Itb) (r : Run Env) → anyMakes t xs ≡ false → Has r → flush (fillAll t v xs) r ≡ flush xs r
   flush-fill [] r d h = refl
   flush-fill (x ∷ xs) r d h =
       let n = neither (sameTag (makes (x .work)) t) (anyMakes t xs) d in

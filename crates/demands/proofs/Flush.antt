@@ -11,11 +11,10 @@ use Rattle.isa.specs.declared.InstrAddr.{InstrAddr}
 use Rattle.kernel.specs.Kernel.{instrAddr, readAt, writeAt, branch, Run, going, stopped, attempt}
 use Rattle.templates.specs.declared.Work.{Work}
 use Rattle.templates.specs.declared.Work.the-variants.{Done, Op, Jz, Load, Store}
-use Rattle.templates.specs.declared.Template.{Template}
 use Rattle.templates.specs.declared.Register.{Register}
 use Rattle.templates.specs.declared.Counter.{Counter}
 use Rattle.templates.specs.declared.Counter.the-variants.{At, Stall}
-use Rattle.templates.specs.Layout.{Mach}
+use Rattle.templates.specs.Machine.{Itb, Mach}
 use Rattle.sound.specs.Sound.{isJz, anyJz}
 use Rattle.sound.proofs.Basics.{neither}
 use Rattle.rules.proofs.Environment.{Env, resolve}
@@ -36,7 +35,7 @@ execute a (Store x y) (going e p m) = attempt a m (λ m′. going e p m′) (wri
 
 -- ---- all of them
 
-abbrev pub flush : List Template → Run Env → Run Env
+abbrev pub flush : List Itb → Run Env → Run Env
 flush [] r = r
 flush (x ∷ xs) r = flush xs (execute (x .address) (x .work) r)
 
@@ -63,11 +62,11 @@ outcome σ m = finish (σ .registers) (flush (σ .held) (begin σ m))
 
 -- ---- in two parts; and after a stop
 
-pub flush-append : (xs ys : List Template) (r : Run Env) → flush (xs ++ ys) r ≡ flush ys (flush xs r)
+pub flush-append : (xs ys : List Itb) (r : Run Env) → flush (xs ++ ys) r ≡ flush ys (flush xs r)
 flush-append [] ys r = refl
 flush-append (x ∷ xs) ys r = flush-append xs ys (execute (x .address) (x .work) r)
 
-pub flush-stopped : (xs : List Template) (a : InstrAddr) (n : ℕ) (m : List Value) → flush xs (stopped a n m) ≡ stopped a n m
+pub flush-stopped : (xs : List Itb) (a : InstrAddr) (n : ℕ) (m : List Value) → flush xs (stopped a n m) ≡ stopped a n m
 flush-stopped [] a n m = refl
 flush-stopped (x ∷ xs) a n m = flush-stopped xs a n m
 
@@ -91,7 +90,7 @@ module _ (q : InstrAddr) where
   execute-at a (Load t x) (going e p m) j = attempt-at a m (λ v. going (bind t v e) q m) (λ v. going (bind t v e) p m) (λ _. refl) (readAt m (resolve e x))
   execute-at a (Store x y) (going e p m) j = attempt-at a m (λ m′. going e q m′) (λ m′. going e p m′) (λ _. refl) (writeAt m (resolve e x) (resolve e y))
 
-  pub flush-at : (xs : List Template) (r : Run Env) → anyJz xs ≡ false → flush xs (at q r) ≡ at q (flush xs r)
+  pub flush-at : (xs : List Itb) (r : Run Env) → anyJz xs ≡ false → flush xs (at q r) ≡ at q (flush xs r)
   flush-at [] r j = refl
   flush-at (x ∷ xs) r j =
       let n = neither (isJz (x .work)) (anyJz xs) j in

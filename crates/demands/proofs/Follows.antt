@@ -21,8 +21,8 @@ use Rattle.templates.specs.declared.Operand.the-variants.{Known, Waits}
 use Rattle.templates.specs.declared.Register.{Register}
 use Rattle.templates.specs.declared.Counter.{Counter}
 use Rattle.templates.specs.declared.Counter.the-variants.{At, Stall}
-use Rattle.templates.specs.Templates.{template, register, waits, anyReg, contents, put}
-use Rattle.templates.specs.Layout.{Mach, mach, capacity}
+use Rattle.templates.specs.Templates.{register, waits, anyReg, contents, put}
+use Rattle.templates.specs.Machine.{ITB, Mach, mach, room}
 use Rattle.sound.specs.Sound.{anyJz}
 use Rattle.sound.proofs.Basics.{by-test, neither}
 use Rattle.sound.proofs.Soundness.{CounterOk, Sound, fresh-unheld}
@@ -131,13 +131,13 @@ module _ (prog : List Instr) (t : Tag) (σ : Mach) (m : List Value) (s : Sound (
         let w = workOf (σ .registers) ia t i in
         let q = counterOf (counterAfter ia i) in
         ap (finish (renamed (σ .registers) t i))
-        (flush-append (σ .held) (template ia w ∷ []) (going nothing q m) ∙ ap (execute ia w) (flush-at q (σ .held) (going nothing ia m) plain))
+        (flush-append (σ .held) (ITB ia w ∷ []) (going nothing q m) ∙ ap (execute ia w) (flush-at q (σ .held) (going nothing ia m) plain))
         ∙ one-step i g (matches t (σ .registers) ia i (free ia i ok)) (flush (σ .held) (going nothing ia m)) (flush-at ia (σ .held) (going nothing ia m) plain)
 
     issue-at : (o : Option Instr) → getElem? prog (ia .0) ≡ o → Follows prog was (tried (issueAt t σ m ia) (present o))
     issue-at none e = tt
     issue-at (some i) e =
-        by-test (Follows prog was) (leb capacity (length (σ .held))) (λ _. tt)
+        by-test (Follows prog was) (leb room (length (σ .held))) (λ _. tt)
         (λ _. by-test (Follows prog was) (tagOk (σ .held) t i) (issued-follows i e) (λ _. tt))
 
   issue-from : (c : Counter) → CounterOk c (σ .held) → Follows prog (outcome (mach c (σ .registers) (σ .held)) m) (issueFrom t σ m prog c)

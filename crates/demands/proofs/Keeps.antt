@@ -15,9 +15,8 @@ use Rattle.templates.specs.declared.Operand.{Operand}
 use Rattle.templates.specs.declared.Operand.the-variants.{Known}
 use Rattle.templates.specs.declared.Work.{Work}
 use Rattle.templates.specs.declared.Work.the-variants.{Done, Op, Jz, Load, Store}
-use Rattle.templates.specs.declared.Template.{Template}
-use Rattle.templates.specs.Templates.{template, anyMakes, fillAll, fillRegs}
-use Rattle.templates.specs.Layout.{Mach}
+use Rattle.templates.specs.Templates.{fillRegs}
+use Rattle.templates.specs.Machine.{Itb, ITB, anyMakes, fillAll, Mach}
 use Rattle.sound.proofs.Soundness.{Sound, value-made-once, straight}
 use Rattle.rules.specs.declared.Rule.{Rule}
 use Rattle.rules.specs.Rules.{Step, holding, apply}
@@ -41,7 +40,7 @@ execute-jz : (a : InstrAddr) (u : Value) (y : Operand) (ia : InstrAddr) → ((e 
 execute-jz a u y ia h (going e p m) = rw (h e)
 execute-jz a u y ia h (stopped b n m) = refl
 
-module _ (k : ℕ) (σ : Mach) (m : List Value) (pre : List Template) (a : InstrAddr) (post : List Template) where
+module _ (k : ℕ) (σ : Mach) (m : List Value) (pre : List Itb) (a : InstrAddr) (post : List Itb) where
   -- the run when the front has been executed; and then the rest
   abbrev front : Run Env
   front = flush pre (begin σ m)
@@ -50,29 +49,29 @@ module _ (k : ℕ) (σ : Mach) (m : List Value) (pre : List Template) (a : Instr
   rest r = finish (σ .registers) (flush post r)
 
   abbrev Was : Work → Type 0
-  Was w = Sound k (holding σ (pre ++ template a w ∷ post))
+  Was w = Sound k (holding σ (pre ++ ITB a w ∷ post))
 
-  whole : (w : Work) → outcome (holding σ (pre ++ template a w ∷ post)) m ≡ rest (execute a w front)
-  whole w = ap (finish (σ .registers)) (flush-append pre (template a w ∷ post) (begin σ m))
+  whole : (w : Work) → outcome (holding σ (pre ++ ITB a w ∷ post)) m ≡ rest (execute a w front)
+  whole w = ap (finish (σ .registers)) (flush-append pre (ITB a w ∷ post) (begin σ m))
 
   -- in place of w, something with which the front comes to the same
-  same : (w : Work) (o : Run (List Register)) (r : Run Env) → o ≡ rest r → r ≡ execute a w front → o ≡ outcome (holding σ (pre ++ template a w ∷ post)) m
+  same : (w : Work) (o : Run (List Register)) (r : Run Env) → o ≡ rest r → r ≡ execute a w front → o ≡ outcome (holding σ (pre ++ ITB a w ∷ post)) m
   same w o r e f = e ∙ ap rest f ∙ sym (whole w)
 
   unmade : (t : Tag) (v : Value) → Was (Done t v) → anyMakes t post ≡ false
   unmade t v s = value-made-once k pre a t v post (s .templates)
 
-  keeps-cases : Cases σ m pre a post (λ w r. Was w → Keeps (outcome (holding σ (pre ++ template a w ∷ post)) m) r)
+  keeps-cases : Cases σ m pre a post (λ w r. Was w → Keeps (outcome (holding σ (pre ++ ITB a w ∷ post)) m) r)
   keeps-cases =
       record {
         refuses = λ w n e s. tt;
         operates = λ t n u v s. same (Op t n (Known u) (Known v)) _ _ (whole (Done t (result n u v))) (execute-op a t n u v front);
         forwards = λ t v h s.
-            ap (finish (σ .registers)) (flush-append pre (template a (Done t v) ∷ fillAll t v post) (begin σ m)
+            ap (finish (σ .registers)) (flush-append pre (ITB a (Done t v) ∷ fillAll t v post) (begin σ m)
             ∙ flush-fill t v post (execute a (Done t v) front) (unmade t v s) (has-value t v a front))
             ∙ sym (whole (Done t v));
         commits = λ t v h s.
-            ap (finish (fillRegs t v (σ .registers))) (flush-append pre (template a (Done t v) ∷ post) (begin σ m))
+            ap (finish (fillRegs t v (σ .registers))) (flush-append pre (ITB a (Done t v) ∷ post) (begin σ m))
             ∙ finish-fill t v (σ .registers) (flush post (execute a (Done t v) front))
             (flush-has t v post (execute a (Done t v) front) (unmade t v s) (has-value t v a front))
             ∙ sym (whole (Done t v));
@@ -88,12 +87,12 @@ module _ (k : ℕ) (σ : Mach) (m : List Value) (pre : List Template) (a : Instr
             (load-early x (length m) v a t front (same-flush x (length m) v pre (begin σ m) (g .lets) (refl, e)));
         stores = λ x v l g s.
             let w = Store (Known (Word x)) (Known v) in
-            let f = sized-flush x (length m) v pre (begin σ m) (g .lets) (straight (template a w) post (σ .counter) pre (s .counter)) refl in
+            let f = sized-flush x (length m) v pre (begin σ m) (g .lets) (straight (ITB a w) post (σ .counter) pre (s .counter)) refl in
             same w _ _ (ap (finish (σ .registers)) (flush-append pre post (begin σ (set m x v)))) (f .0 ∙ store-early x (length m) v a front l (f .1));
         jumps = λ u y ia b s.
             let w = Jz (Known u) y in
             same w _ _ (ap (finish (σ .registers)) (flush-append pre post (going nothing ia m)))
-            (flush-at ia pre (begin σ m) (straight (template a w) post (σ .counter) pre (s .counter)) ∙ sym (execute-jz a u y ia b front));
+            (flush-at ia pre (begin σ m) (straight (ITB a w) post (σ .counter) pre (s .counter)) ∙ sym (execute-jz a u y ia b front));
       }
 
 pub apply-keeps-outcome : (k : ℕ) (r : Rule) (place : ℕ) (σ : Mach) (m : List Value) → Sound k σ → Keeps (outcome σ m) (apply r place σ m)

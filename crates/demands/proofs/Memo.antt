@@ -24,12 +24,11 @@ use Rattle.templates.specs.declared.Operand.{Operand}
 use Rattle.templates.specs.declared.Operand.the-variants.{Known, Waits}
 use Rattle.templates.specs.declared.Work.{Work}
 use Rattle.templates.specs.declared.Work.the-variants.{Done, Op, Jz, Load, Store}
-use Rattle.templates.specs.declared.Template.{Template}
 use Rattle.templates.specs.declared.Register.{Register}
 use Rattle.templates.specs.declared.Counter.{Counter}
 use Rattle.templates.specs.declared.Counter.the-variants.{At, Stall}
-use Rattle.templates.specs.Templates.{noTag, blank, anyMakes, anyHolds, anyMemory, anyReg}
-use Rattle.templates.specs.Layout.{Mach, capacity}
+use Rattle.templates.specs.Templates.{noTag, anyReg}
+use Rattle.templates.specs.Machine.{ITB, Itb, nothing, anyMakes, anyHolds, anyMemory, Mach, room}
 use Rattle.sound.specs.Sound.{isJz, anyJz, endsInJz, soundMach}
 use Rattle.sound.proofs.Basics.{by-test, neither}
 use Rattle.sound.proofs.Soundness.{CounterOk, not-empty}
@@ -43,15 +42,15 @@ use Rattle.rules.specs.Schedule.{obey}
 use Rattle.rules.proofs.Cases.{apply-at}
 use Rattle.rules.specs.Moves.{Refused}
 use Rattle.demands.specs.Memo as Memo
-use Rattle.demands.specs.Memo.{Proc, ITB, Fetches, Room, Unused, Renames}
+use Rattle.demands.specs.Memo.{Proc, Fetches, Room, Unused, Renames}
 use Rattle.demands.proofs.Early.{reads}
 
 -- ---- conditions
 
-fresh : (t : Tag) (itbs : List Template) → Unused t itbs → isFresh t itbs ≡ true
+fresh : (t : Tag) (itbs : List Itb) → Unused t itbs → isFresh t itbs ≡ true
 fresh t itbs u = new-said (λ s. anyMakes s itbs) t .says (u .from, u .to, u .new)
 
-unused : (t : Tag) (itbs : List Template) → isFresh t itbs ≡ true → Unused t itbs
+unused : (t : Tag) (itbs : List Itb) → isFresh t itbs ≡ true → Unused t itbs
 unused t itbs e =
     let h = new-said (λ s. anyMakes s itbs) t .holds e in
     record { from = h .0; to = h .1; new = h .2 }
@@ -62,12 +61,12 @@ writes m a v l = rw (lt-ltb a (length m) l) refl
 -- ---- from a step of the memo to an accepted command
 
 module _ (prog : List Instr) where
-  issue-accepted : (ia : InstrAddr) (rf : List Register) (itbs : List Template) (m : List Value) (t : Tag) (i : Instr)
+  issue-accepted : (ia : InstrAddr) (rf : List Register) (itbs : List Itb) (m : List Value) (t : Tag) (i : Instr)
       → Fetches prog ia i → Room itbs → tagOk itbs t i ≡ true
       → issue prog t (Proc (At ia) rf itbs) m ≡ accepted (issued t (Proc (At ia) rf itbs) m ia i) m
   unfolding issue
   issue-accepted ia rf itbs m t i e l g =
-      ap (λ (o : Option Instr). tried (issueAt t (Proc (At ia) rf itbs) m ia) (present o)) e ∙ rw (lt-leb capacity (length itbs) l, g) refl
+      ap (λ (o : Option Instr). tried (issueAt t (Proc (At ia) rf itbs) m ia) (present o)) e ∙ rw (lt-leb room (length itbs) l, g) refl
 
   pub memo-accepted : {σ σ′ : Mach} {m m′ : List Value} {c : Command} → Renames prog σ m c σ′ m′ → obey prog c σ m ≡ accepted σ′ m′
   unfolding obey
@@ -92,12 +91,12 @@ module _ (prog : List Instr) where
   memo-accepted (Memo.jz-jump rf pre m a nia) =
       let x = ITB a (Jz (Known (Word 0)) (Known (Word nia))) in
       apply-at Rule.Jump (Proc Stall rf (pre ++ x ∷ [])) m pre x [] refl
-      ∙ ap (λ (l : List Template). accepted (Proc (At (instrAddr nia)) rf l) m) (append-nil pre)
+      ∙ ap (λ (l : List Itb). accepted (Proc (At (instrAddr nia)) rf l) m) (append-nil pre)
   memo-accepted (Memo.jz-no-jump rf pre m a v y h) =
       let x = ITB a (Jz (Known (Word v)) y) in
       apply-at Rule.NoJump (Proc Stall rf (pre ++ x ∷ [])) m pre x [] refl
       ∙ rw (ne-eqb v 0 h) refl
-      ∙ ap (λ (l : List Template). accepted (Proc (At (next a)) rf l) m) (append-nil pre)
+      ∙ ap (λ (l : List Itb). accepted (Proc (At (next a)) rf l) m) (append-nil pre)
   memo-accepted (Memo.load pc rf pre post m a t w v h e) =
       let x = ITB a (Load t (Known (Word w))) in
       apply-at Rule.Load (Proc pc rf (pre ++ x ∷ post)) m pre x post refl ∙ rw (h, reads m w v e) refl
@@ -107,7 +106,7 @@ module _ (prog : List Instr) where
 
 -- ---- a Jz stands last, and the counter is stalled
 
-some-jz : (pre : List Template) (a : InstrAddr) (x y : Operand) (post : List Template) → anyJz (pre ++ ITB a (Jz x y) ∷ post) ≡ true
+some-jz : (pre : List Itb) (a : InstrAddr) (x y : Operand) (post : List Itb) → anyJz (pre ++ ITB a (Jz x y) ∷ post) ≡ true
 some-jz [] a x y post = refl
 some-jz (z ∷ pre) a x y post = or-true (isJz (z .work)) (some-jz pre a x y post)
   where
@@ -115,7 +114,7 @@ some-jz (z ∷ pre) a x y post = or-true (isJz (z .work)) (some-jz pre a x y pos
     or-true true e = refl
     or-true false e = e
 
-ends-there : (pre : List Template) (a : InstrAddr) (x y : Operand) (z : Template) (post : List Template)
+ends-there : (pre : List Itb) (a : InstrAddr) (x y : Operand) (z : Itb) (post : List Itb)
     → endsInJz (pre ++ ITB a (Jz x y) ∷ z ∷ post) ≡ false
 ends-there [] a x y z post = refl
 ends-there (w ∷ pre) a x y z post =
@@ -131,7 +130,7 @@ module _ (prog : List Instr) where
 
   -- ---- issue
 
-  module _ (rf : List Register) (itbs : List Template) (m : List Value) (t : Tag) where
+  module _ (rf : List Register) (itbs : List Itb) (m : List Value) (t : Tag) where
     no-tag : eqb (t .0) 0 ≡ true → noTag ≡ t
     no-tag e = sym (λ i. record { 0 = eqb-true (t .0) 0 e i })
 
@@ -152,8 +151,8 @@ module _ (prog : List Instr) where
         → Told (Proc (At ia) rf itbs) m (Issue t) (tried (issueAt t (Proc (At ia) rf itbs) m ia) (present o))
     fetched-told ia none e = tt
     fetched-told ia (some i) e =
-        by-test (Told (Proc (At ia) rf itbs) m (Issue t)) (leb capacity (length itbs)) (λ _. tt)
-        (λ l. by-test (Told (Proc (At ia) rf itbs) m (Issue t)) (tagOk itbs t i) (issued-told ia i e (leb-false capacity (length itbs) l)) (λ _. tt))
+        by-test (Told (Proc (At ia) rf itbs) m (Issue t)) (leb room (length itbs)) (λ _. tt)
+        (λ l. by-test (Told (Proc (At ia) rf itbs) m (Issue t)) (tagOk itbs t i) (issued-told ia i e (leb-false room (length itbs) l)) (λ _. tt))
 
     issue-told : (pc : Counter) → Told (Proc pc rf itbs) m (Issue t) (issueFrom t (Proc pc rf itbs) m prog pc)
     issue-told (At ia) = fetched-told ia (getElem? prog (ia .0)) refl
@@ -161,18 +160,18 @@ module _ (prog : List Instr) where
 
   -- ---- the other rules, at the template of address a
 
-  module _ (rf : List Register) (m : List Value) (pre : List Template) (a : InstrAddr) where
-    abbrev with-work : Counter → List Template → Work → Mach
+  module _ (rf : List Register) (m : List Value) (pre : List Itb) (a : InstrAddr) where
+    abbrev with-work : Counter → List Itb → Work → Mach
     with-work pc post w = Proc pc rf (pre ++ ITB a w ∷ post)
 
-    abbrev ToldBy : Rule → Counter → List Template → Work → Step → Type 0
+    abbrev ToldBy : Rule → Counter → List Itb → Work → Step → Type 0
     ToldBy r pc post w = Told (with-work pc post w) m (Apply r (length pre))
 
     -- the rule at that template, with work w
-    abbrev Here : Rule → Counter → List Template → Work → Type 0
+    abbrev Here : Rule → Counter → List Itb → Work → Type 0
     Here r pc post w = ToldBy r pc post w (rule r (with-work pc post w) m pre a post w)
 
-    module _ (pc : Counter) (post : List Template) where
+    module _ (pc : Counter) (post : List Itb) where
       operate-told : (w : Work) → Here Rule.Operate pc post w
       operate-told (Done t v) = tt
       operate-told (Op t n (Known u) (Known v)) = Memo.op pc rf pre post m a t n u v
@@ -253,7 +252,7 @@ module _ (prog : List Instr) where
         (λ (k : ℕ). Renames prog (with-work Stall [] (Jz (Known (Word k)) (Known (Word nia)))) m (Apply Rule.Jump (length pre)) (Proc (At (instrAddr nia)) rf (pre ++ [])) m)
         (sym (eqb-true w 0 z))
         (subst
-        (λ (l : List Template). Renames prog (with-work Stall [] (Jz (Known (Word 0)) (Known (Word nia)))) m (Apply Rule.Jump (length pre)) (Proc (At (instrAddr nia)) rf l) m)
+        (λ (l : List Itb). Renames prog (with-work Stall [] (Jz (Known (Word 0)) (Known (Word nia)))) m (Apply Rule.Jump (length pre)) (Proc (At (instrAddr nia)) rf l) m)
         (sym (append-nil pre)) (Memo.jz-jump rf pre m a nia))
     taken-told w (Waits s) z = tt
 
@@ -268,17 +267,17 @@ module _ (prog : List Instr) where
         by-test (ToldBy Rule.NoJump Stall [] (Jz (Known (Word w)) y)) (eqb w 0) (λ _. tt)
         (λ z.
         subst
-        (λ (l : List Template). Renames prog (with-work Stall [] (Jz (Known (Word w)) y)) m (Apply Rule.NoJump (length pre)) (Proc (At (next a)) rf l) m)
+        (λ (l : List Itb). Renames prog (with-work Stall [] (Jz (Known (Word w)) y)) m (Apply Rule.NoJump (length pre)) (Proc (At (next a)) rf l) m)
         (sym (append-nil pre)) (Memo.jz-no-jump rf pre m a w y (eqb-false w 0 z)))
     no-jump-last (Waits s) y = tt
 
-    at-the-end : (r : Rule) (x y : Operand) → Here r Stall [] (Jz x y) → (pc : Counter) (post : List Template)
+    at-the-end : (r : Rule) (x y : Operand) → Here r Stall [] (Jz x y) → (pc : Counter) (post : List Itb)
         → CounterOk pc (pre ++ ITB a (Jz x y) ∷ post) → Here r pc post (Jz x y)
     at-the-end r x y h (At ia) post ok = absurd (true≢false (sym (some-jz pre a x y post) ∙ ok))
     at-the-end r x y h Stall [] ok = h
     at-the-end r x y h Stall (z ∷ post) ok = absurd (false≢true (sym (ends-there pre a x y z post) ∙ ok))
 
-    module _ (pc : Counter) (post : List Template) where
+    module _ (pc : Counter) (post : List Itb) where
       jump-told : (w : Work) → CounterOk pc (pre ++ ITB a w ∷ post) → Here Rule.Jump pc post w
       jump-told (Done t v) ok = tt
       jump-told (Op t n x y) ok = tt
@@ -306,11 +305,11 @@ module _ (prog : List Instr) where
   -- ---- at a place
 
   module _ (σ : Mach) (m : List Value) (ok : CounterOk (σ .counter) (σ .held)) where
-    there-told : (r : Rule) (pre : List Template) (x : Template) (post : List Template) → σ .held ≡ pre ++ x ∷ post
+    there-told : (r : Rule) (pre : List Itb) (x : Itb) (post : List Itb) → σ .held ≡ pre ++ x ∷ post
         → Told σ m (Apply r (length pre)) (rule r σ m pre (x .address) post (x .work))
     there-told r pre x post e =
         subst
-        (λ (ts : List Template).
+        (λ (ts : List Itb).
         Told (Proc (σ .counter) (σ .registers) ts) m (Apply r (length pre))
         (rule r (Proc (σ .counter) (σ .registers) ts) m pre (x .address) post (x .work)))
         (sym e)
@@ -320,7 +319,7 @@ module _ (prog : List Instr) where
     unfolding apply
     apply-told r place =
         let ts = σ .held in
-        let x = getD ts place blank in
+        let x = getD ts place nothing in
         let pre = take place ts in
         let post = drop (suc place) ts in
         by-test (Told σ m (Apply r place)) (ltb place (length ts))
@@ -328,7 +327,7 @@ module _ (prog : List Instr) where
         let l = ltb-true place (length ts) h in
         let k : place ≤ length ts = omega (arith, l) in
         subst (λ (n : ℕ). Told σ m (Apply r n) (rule r σ m pre (x .address) post (x .work))) (length-take-le place ts k)
-        (there-told r pre x post (split-at ts place blank l)))
+        (there-told r pre x post (split-at ts place nothing l)))
         (λ _. tt)
 
     obey-told : (c : Command) → Told σ m c (obey prog c σ m)

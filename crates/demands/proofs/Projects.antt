@@ -9,7 +9,7 @@ use Rattle.isa.specs.declared.Tag.{Tag}
 use Rattle.isa.specs.declared.Instr.{Instr}
 use Rattle.isa.specs.Program.{program}
 use Rattle.kernel.specs.Kernel.{Run, going}
-use Rattle.templates.specs.Layout.{Mach}
+use Rattle.templates.specs.Machine.{Mach}
 use Rattle.sound.specs.Sound.{soundMach}
 use Rattle.sound.proofs.Soundness.{Sound}
 use Rattle.sound.proofs.Decides.{sound-said}

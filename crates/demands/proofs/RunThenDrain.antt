@@ -25,11 +25,11 @@ use Rattle.cells.specs.Cells as Cells
 use Rattle.cells.proofs.Memory.{Words, cells-image, scan-image, length-cells}
 use Rattle.kernel.specs.Checks.{first, checked}
 use Rattle.kernel.proofs.Checking.{checks-say, checked-program, works}
-use Rattle.templates.specs.declared.Template.{Template}
 use Rattle.templates.specs.declared.Counter.{Counter}
 use Rattle.templates.specs.declared.Counter.the-variants.{At, Stall}
 use Rattle.templates.specs.declared.State.{State}
-use Rattle.templates.specs.Layout.{Mach, start, machOf, stateOf, capacity}
+use Rattle.templates.specs.Machine.{Itb, Mach, start, room}
+use Rattle.templates.specs.Layout.{machOf, stateOf}
 use Rattle.templates.proofs.Places.{machOf-stateOf}
 use Rattle.sound.specs.Sound.{isSound}
 use Rattle.sound.proofs.Basics.{by-test}
@@ -43,7 +43,8 @@ use Rattle.rules.specs.Rules.{tried, tagOk, issueAt, issueFrom, issue}
 use Rattle.rules.specs.Schedule.{obey}
 use Rattle.rules.specs.Run.{End, commands}
 use Rattle.rules.specs.Drain.{Drained, drain, blocking, blockedAt, refusal}
-use Rattle.renaming.specs.Entries.{entered, enteredRun, ended, settled, ran, ranMemory, Runs, drained, drainedMemory, Drains}
+use Rattle.entry.specs.Entry.{entered}
+use Rattle.renaming.specs.Entries.{enteredRun, ended, settled, ran, ranMemory, Runs, drained, drainedMemory, Drains}
 use Rattle.rules.proofs.Cases.{OnStep, Cases, apply-cases}
 use Rattle.isa.proofs.Formed.{program-formed}
 use Rattle.inorder.specs.declared.Ran.{Ran as InOrderRan}
@@ -65,7 +66,7 @@ use Rattle.demands.proofs.Words.{bytes-run-words}
 abbrev AsLong : List Value → Mach → List Value → Type 0
 AsLong m σ′ m′ = length m′ ≡ length m
 
-long-cases : (σ : Mach) (m : List Value) (pre : List Template) (a : InstrAddr) (post : List Template)
+long-cases : (σ : Mach) (m : List Value) (pre : List Itb) (a : InstrAddr) (post : List Itb)
     → Cases σ m pre a post (λ w r. OnStep (AsLong m) r)
 long-cases σ m pre a post =
     record {
@@ -83,7 +84,7 @@ module _ (prog : List Instr) (σ : Mach) (m : List Value) where
   issue-long-at : (t : Tag) (ia : InstrAddr) (o : Option Instr) → OnStep (AsLong m) (tried (issueAt t σ m ia) (present o))
   issue-long-at t ia none = tt
   issue-long-at t ia (some i) =
-      by-test (OnStep (AsLong m)) (leb capacity (length (σ .held))) (λ _. tt)
+      by-test (OnStep (AsLong m)) (leb room (length (σ .held))) (λ _. tt)
       (λ _. by-test (OnStep (AsLong m)) (tagOk (σ .held) t i) (λ _. refl) (λ _. tt))
 
   issue-long-from : (t : Tag) (c : Counter) → OnStep (AsLong m) (issueFrom t σ m prog c)
@@ -144,7 +145,7 @@ module _ (d : Drained) (x : InOrder.End) (n : ℕ) (a : AgreesWith n x (d .machi
       let g = a .went e in
       record {
         refusal = ap (blocking (d .machine) (d .memory)) (g .empty);
-        empty = ap (λ (ts : List Template). length ts) (g .empty);
+        empty = ap (λ (ts : List Itb). length ts) (g .empty);
         counter = g .counter;
         registers = g .registers;
       }

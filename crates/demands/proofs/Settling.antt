@@ -16,12 +16,11 @@ use Rattle.templates.specs.declared.Operand.{Operand}
 use Rattle.templates.specs.declared.Operand.the-variants.{Known, Waits}
 use Rattle.templates.specs.declared.Work.{Work}
 use Rattle.templates.specs.declared.Work.the-variants.{Done, Op, Jz, Load, Store}
-use Rattle.templates.specs.declared.Template.{Template}
 use Rattle.templates.specs.declared.Register.{Register}
 use Rattle.templates.specs.declared.Counter.{Counter}
 use Rattle.templates.specs.declared.Counter.the-variants.{At}
-use Rattle.templates.specs.Templates.{sameTag, template, register, makes, waits, holds, isMemory, fill, fillWork, fillAll, fillRegs, anyMakes, anyHolds, anyMemory, anyReg}
-use Rattle.templates.specs.Layout.{Mach, mach}
+use Rattle.templates.specs.Templates.{sameTag, register, makes, waits, holds, isMemory, fill, fillWork, fillRegs, anyReg}
+use Rattle.templates.specs.Machine.{Itb, ITB, fillAll, anyMakes, anyHolds, anyMemory, Mach, mach}
 use Rattle.sound.specs.Sound.{isJz, anyJz}
 use Rattle.sound.proofs.Basics.{by-test, neither, same-tag}
 use Rattle.rules.specs.Rules.{Step, accepted}
@@ -55,7 +54,7 @@ putRegs e rf = map (λ r. register (put e (r .holds))) rf
 pub record Way : Type 0 where
   pub tags : Stands
   pub counter : Counter
-  pub kept : List Template
+  pub kept : List Itb
   pub memory : List Value
 
 abbrev pub bound : Tag → Value → Way → Way
@@ -68,7 +67,7 @@ abbrev pub stored : List Value → Way → Way
 stored m s = record { tags = s .tags; counter = s .counter; kept = s .kept; memory = m }
 
 abbrev pub keep : InstrAddr → Work → Way → Way
-keep a w s = record { tags = s .tags; counter = s .counter; kept = s .kept ++ template a w ∷ []; memory = s .memory }
+keep a w s = record { tags = s .tags; counter = s .counter; kept = s .kept ++ ITB a w ∷ []; memory = s .memory }
 
 abbrev pub either : {A : Type 0} → (A → Way) → Way → Try A → Way
 either f other (got x) = f x
@@ -88,11 +87,11 @@ branched a (Known (Word w)) y = cond (eqb w 0) (targeted y) (got (next a))
 branched a (Known Undefined) y = fails isUndefined
 branched a (Waits t) y = fails needsTag
 
-abbrev pub loaded : List Template → List Value → Operand → Try Value
+abbrev pub loaded : List Itb → List Value → Operand → Try Value
 loaded ts m (Known u) = cond (anyMemory ts) (fails earlierMemory) (readAt m u)
 loaded ts m (Waits t) = fails needsTag
 
-abbrev pub written : List Template → List Value → Operand → Operand → Try (List Value)
+abbrev pub written : List Itb → List Value → Operand → Operand → Try (List Value)
 written ts m (Known u) (Known v) = cond (anyMemory ts) (fails earlierMemory) (writeAt m u v)
 written ts m (Known u) (Waits t) = fails needsTag
 written ts m (Waits t) y = fails needsTag
@@ -110,7 +109,7 @@ turn a w s = now a (putWork (s .tags) w) s
 
 -- ---- all of them
 
-abbrev pub settle : List Template → Way → Way
+abbrev pub settle : List Itb → Way → Way
 settle [] s = s
 settle (x ∷ xs) s = settle xs (turn (x .address) (x .work) s)
 
@@ -123,7 +122,7 @@ close rf s = accepted (mach (s .counter) (putRegs (s .tags) rf) (s .kept)) (s .m
 abbrev pub settled : Mach → List Value → Step
 settled σ m = close (σ .registers) (settle (σ .held) (outset (σ .counter) m))
 
-pub settle-append : (xs ys : List Template) (s : Way) → settle (xs ++ ys) s ≡ settle ys (settle xs s)
+pub settle-append : (xs ys : List Itb) (s : Way) → settle (xs ++ ys) s ≡ settle ys (settle xs s)
 settle-append [] ys s = refl
 settle-append (x ∷ xs) ys s = settle-append xs ys (turn (x .address) (x .work) s)
 
@@ -175,7 +174,7 @@ module _ (t : Tag) (v : Value) where
   turn-has : (a : InstrAddr) (w : Work) (s : Way) → sameTag (makes w) t ≡ false → Has s → Has (turn a w s)
   turn-has a w s d h = now-has a (putWork (s .tags) w) s (ap (λ (r : Tag). sameTag r t) (makes-put (s .tags) w) ∙ d) h
 
-  pub settle-has : (xs : List Template) (s : Way) → anyMakes t xs ≡ false → Has s → Has (settle xs s)
+  pub settle-has : (xs : List Itb) (s : Way) → anyMakes t xs ≡ false → Has s → Has (settle xs s)
   settle-has [] s d h = h
   settle-has (x ∷ xs) s d h =
       let n = neither (sameTag (makes (x .work)) t) (anyMakes t xs) d in
@@ -195,7 +194,7 @@ module _ (t : Tag) (v : Value) where
   put-work-fill e h (Load s x) = ap (Load s) (put-fill e h x)
   put-work-fill e h (Store x y) = ap₂ Store (put-fill e h x) (put-fill e h y)
 
-  pub settle-fill : (xs : List Template) (s : Way) → anyMakes t xs ≡ false → Has s → settle (fillAll t v xs) s ≡ settle xs s
+  pub settle-fill : (xs : List Itb) (s : Way) → anyMakes t xs ≡ false → Has s → settle (fillAll t v xs) s ≡ settle xs s
   settle-fill [] s d h = refl
   settle-fill (x ∷ xs) s d h =
       let n = neither (sameTag (makes (x .work)) t) (anyMakes t xs) d in
@@ -229,7 +228,7 @@ module _ (t : Tag) (v : Value) where
   put-work-unheld e (Load s x) h = ap (Load s) (put-unheld e x h)
   put-work-unheld e (Store x y) h = let i = neither (waits t x) (waits t y) h in ap₂ Store (put-unheld e x (i .0)) (put-unheld e y (i .1))
 
-  pub settle-bound : (xs : List Template) (s : Way) → anyHolds t xs ≡ false → anyMakes t xs ≡ false → settle xs (bound t v s) ≡ bound t v (settle xs s)
+  pub settle-bound : (xs : List Itb) (s : Way) → anyHolds t xs ≡ false → anyMakes t xs ≡ false → settle xs (bound t v s) ≡ bound t v (settle xs s)
   settle-bound [] s h d = refl
   settle-bound (x ∷ xs) s h d =
       let i = neither (holds t (x .work)) (anyHolds t xs) h in
@@ -254,7 +253,7 @@ module _ (c : InstrAddr) where
   now-turned a (Load t x) s j = either-on (turned c) (λ v. bound t v s) _ _ _ (λ _. refl) refl (loaded (s .kept) (s .memory) x)
   now-turned a (Store x y) s j = either-on (turned c) (λ m. stored m s) _ _ _ (λ _. refl) refl (written (s .kept) (s .memory) x y)
 
-  pub settle-turned : (xs : List Template) (s : Way) → anyJz xs ≡ false → settle xs (turned c s) ≡ turned c (settle xs s)
+  pub settle-turned : (xs : List Itb) (s : Way) → anyJz xs ≡ false → settle xs (turned c s) ≡ turned c (settle xs s)
   settle-turned [] s j = refl
   settle-turned (x ∷ xs) s j =
       let n = neither (isJz (x .work)) (anyJz xs) j in
@@ -263,7 +262,7 @@ module _ (c : InstrAddr) where
 
 -- ---- where no template accesses memory, so is memory, and none is kept
 
-pub any-memory-append : (xs ys : List Template) → anyMemory (xs ++ ys) ≡ (anyMemory xs || anyMemory ys)
+pub any-memory-append : (xs ys : List Itb) → anyMemory (xs ++ ys) ≡ (anyMemory xs || anyMemory ys)
 any-memory-append [] ys = refl
 any-memory-append (x ∷ xs) ys = rw (any-memory-append xs ys) (sym (or-assoc (isMemory (x .work)) (anyMemory xs) (anyMemory ys)))
 
@@ -274,7 +273,7 @@ pub record Still (m : List Value) (s : Way) : Type 0 where
 
 module _ (m : List Value) where
   still-keep : (a : InstrAddr) (w : Work) (s : Way) → isMemory w ≡ false → Still m s → Still m (keep a w s)
-  still-keep a w s h k = record { clear = any-memory-append (s .kept) (template a w ∷ []) ∙ rw (k .clear, h); same = k .same }
+  still-keep a w s h k = record { clear = any-memory-append (s .kept) (ITB a w ∷ []) ∙ rw (k .clear, h); same = k .same }
 
   still-either : {A : Type 0} (f : A → Way) (o : Way) → ((x : A) → Still m (f x)) → Still m o → (r : Try A) → Still m (either f o r)
   still-either f o h k (got x) = h x
@@ -289,7 +288,7 @@ module _ (m : List Value) where
   now-still a (Load t x) s h k = absurd (true≢false h)
   now-still a (Store x y) s h k = absurd (true≢false h)
 
-  pub settle-still : (xs : List Template) (s : Way) → anyMemory xs ≡ false → Still m s → Still m (settle xs s)
+  pub settle-still : (xs : List Itb) (s : Way) → anyMemory xs ≡ false → Still m s → Still m (settle xs s)
   settle-still [] s h k = k
   settle-still (x ∷ xs) s h k =
       let n = neither (isMemory (x .work)) (anyMemory xs) h in
@@ -302,7 +301,7 @@ module _ (m : List Value) where
   now-stored a (Load t x) s h = absurd (true≢false h)
   now-stored a (Store x y) s h = absurd (true≢false h)
 
-  pub settle-stored : (xs : List Template) (s : Way) → anyMemory xs ≡ false → settle xs (stored m s) ≡ stored m (settle xs s)
+  pub settle-stored : (xs : List Itb) (s : Way) → anyMemory xs ≡ false → settle xs (stored m s) ≡ stored m (settle xs s)
   settle-stored [] s h = refl
   settle-stored (x ∷ xs) s h =
       let n = neither (isMemory (x .work)) (anyMemory xs) h in

@@ -12,7 +12,7 @@ use Rattle.isa.specs.declared.Instr.{Instr}
 use Rattle.isa.specs.declared.Instr.the-variants as Instr
 use Rattle.isa.specs.Program.{present, program}
 use Rattle.kernel.specs.Kernel.{Run, going, stopped}
-use Rattle.templates.specs.Layout.{Mach, mach, start}
+use Rattle.templates.specs.Machine.{Mach, mach, start}
 use Rattle.sound.specs.Sound as Sound
 use Rattle.sound.proofs.Soundness.{RegistersOk, Sound}
 use Rattle.sound.proofs.Decides.{sound-said}

@@ -12,9 +12,9 @@ use Rattle.templates.specs.declared.Operand.{Operand}
 use Rattle.templates.specs.declared.Operand.the-variants.{Known, Waits}
 use Rattle.templates.specs.declared.Work.{Work}
 use Rattle.templates.specs.declared.Work.the-variants.{Done, Op, Jz, Load, Store}
-use Rattle.templates.specs.declared.Template.{Template}
 use Rattle.templates.specs.declared.Register.{Register}
-use Rattle.templates.specs.Templates.{sameTag, makes, waits, holds, anyMakes, anyHolds, anyReg}
+use Rattle.templates.specs.Templates.{sameTag, makes, waits, holds, anyReg}
+use Rattle.templates.specs.Machine.{Itb, anyMakes, anyHolds}
 use Rattle.sound.proofs.Basics.{neither}
 use Rattle.rules.proofs.Environment.{Env, resolve}
 use Rattle.inorder.specs.Machine as InOrder
@@ -59,7 +59,7 @@ module _ (t : Tag) (v : Value) where
       rw (resolve-given e x (i .0), resolve-given e y (i .1))
       (attempt-given a m (λ m′. going (bind t v e) p m′) (λ m′. going e p m′) (λ _. refl) (writeAt m (resolve e x) (resolve e y)))
 
-  pub flush-given : (xs : List Template) (r : Run Env) → anyHolds t xs ≡ false → anyMakes t xs ≡ false → flush xs (given r) ≡ given (flush xs r)
+  pub flush-given : (xs : List Itb) (r : Run Env) → anyHolds t xs ≡ false → anyMakes t xs ≡ false → flush xs (given r) ≡ given (flush xs r)
   flush-given [] r h d = refl
   flush-given (x ∷ xs) r h d =
       let i = neither (holds t (x .work)) (anyHolds t xs) h in

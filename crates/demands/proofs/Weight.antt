@@ -13,10 +13,9 @@ use Rattle.isa.specs.declared.Tag.{Tag}
 use Rattle.templates.specs.declared.Operand.the-variants.{Known}
 use Rattle.templates.specs.declared.Work.{Work}
 use Rattle.templates.specs.declared.Work.the-variants.{Done, Op, Jz, Load, Store}
-use Rattle.templates.specs.declared.Template.{Template}
 use Rattle.templates.specs.declared.Register.{Register}
-use Rattle.templates.specs.Templates.{template, holds, anyHolds, anyReg, fillWork, fillAll, fillRegs}
-use Rattle.templates.specs.Layout.{Mach}
+use Rattle.templates.specs.Templates.{holds, anyReg, fillWork, fillRegs}
+use Rattle.templates.specs.Machine.{Itb, ITB, anyHolds, fillAll, Mach}
 use Rattle.rules.specs.declared.Rule.{Rule}
 use Rattle.rules.specs.Rules.{apply}
 use Rattle.rules.proofs.Cases.{OnStep, Cases, apply-cases}
@@ -29,14 +28,14 @@ bit true = 1
 bit false = 0
 
 -- what is left to do for a template, with xs behind it
-abbrev pub share : List Register → Work → List Template → ℕ
+abbrev pub share : List Register → Work → List Itb → ℕ
 share rf (Done t v) xs = 1 + bit (anyHolds t xs) + bit (anyReg t rf)
 share rf (Op t n x y) xs = 4
 share rf (Jz x y) xs = 1
 share rf (Load t x) xs = 4
 share rf (Store x y) xs = 1
 
-abbrev pub shares : List Register → List Template → ℕ
+abbrev pub shares : List Register → List Itb → ℕ
 shares rf [] = 0
 shares rf (x ∷ xs) = share rf (x .work) xs + shares rf xs
 
@@ -47,14 +46,14 @@ bit-small : (b : Bool) → bit b ≤ 1
 bit-small true = omega arith
 bit-small false = omega arith
 
-share-small : (rf : List Register) (w : Work) (xs : List Template) → share rf w xs ≤ 4
+share-small : (rf : List Register) (w : Work) (xs : List Itb) → share rf w xs ≤ 4
 share-small rf (Done t v) xs = omega (arith, bit-small (anyHolds t xs), bit-small (anyReg t rf))
 share-small rf (Op t n x y) xs = omega arith
 share-small rf (Jz x y) xs = omega arith
 share-small rf (Load t x) xs = omega arith
 share-small rf (Store x y) xs = omega arith
 
-pub at-most-four-each : (rf : List Register) (xs : List Template) → shares rf xs ≤ 4 * length xs
+pub at-most-four-each : (rf : List Register) (xs : List Itb) → shares rf xs ≤ 4 * length xs
 at-most-four-each rf [] = omega arith
 at-most-four-each rf (x ∷ xs) = omega (arith, share-small rf (x .work) xs, at-most-four-each rf xs)
 
@@ -65,33 +64,33 @@ bit-under true b h = rw (h refl) (omega arith)
 bit-under false b h = omega arith
 
 -- whatever tag the one holds, the other holds
-abbrev Holds : List Template → List Template → Type 0
+abbrev Holds : List Itb → List Itb → Type 0
 Holds ys xs = (s : Tag) → Under (anyHolds s ys) (anyHolds s xs)
 
 module _ (rf rf′ : List Register) (g : (s : Tag) → Under (anyReg s rf′) (anyReg s rf)) where
-  share-under : (w : Work) (xs ys : List Template) → Holds ys xs → share rf′ w ys ≤ share rf w xs
+  share-under : (w : Work) (xs ys : List Itb) → Holds ys xs → share rf′ w ys ≤ share rf w xs
   share-under (Done t v) xs ys h = omega (arith, bit-under (anyHolds t ys) (anyHolds t xs) (h t), bit-under (anyReg t rf′) (anyReg t rf) (g t))
   share-under (Op t n x y) xs ys h = omega arith
   share-under (Jz x y) xs ys h = omega arith
   share-under (Load t x) xs ys h = omega arith
   share-under (Store x y) xs ys h = omega arith
 
-  holds-front : (pre xs ys : List Template) → Holds ys xs → Holds (pre ++ ys) (pre ++ xs)
+  holds-front : (pre xs ys : List Itb) → Holds ys xs → Holds (pre ++ ys) (pre ++ xs)
   holds-front [] xs ys h s = h s
   holds-front (x ∷ pre) xs ys h s =
       or-under (holds s (x .work)) (anyHolds s (pre ++ ys)) (holds s (x .work)) (anyHolds s (pre ++ xs)) (λ e. e) (holds-front pre xs ys h s)
 
-  less-behind : (pre xs ys : List Template) → Holds ys xs → shares rf′ ys < shares rf xs → shares rf′ (pre ++ ys) < shares rf (pre ++ xs)
+  less-behind : (pre xs ys : List Itb) → Holds ys xs → shares rf′ ys < shares rf xs → shares rf′ (pre ++ ys) < shares rf (pre ++ xs)
   less-behind [] xs ys h l = l
   less-behind (x ∷ pre) xs ys h l =
       omega (arith, share-under (x .work) (pre ++ xs) (pre ++ ys) (holds-front pre xs ys h), less-behind pre xs ys h l)
 
-  shares-under : (xs : List Template) → shares rf′ xs ≤ shares rf xs
+  shares-under : (xs : List Itb) → shares rf′ xs ≤ shares rf xs
   shares-under [] = omega arith
   shares-under (x ∷ xs) = omega (arith, share-under (x .work) xs xs (λ s e. e), shares-under xs)
 
 module _ (rf : List Register) (t : Tag) (v : Value) where
-  shares-fill : (xs : List Template) → shares rf (fillAll t v xs) ≤ shares rf xs
+  shares-fill : (xs : List Itb) → shares rf (fillAll t v xs) ≤ shares rf xs
   shares-fill [] = omega arith
   shares-fill (x ∷ xs) = omega (arith, share-fill (x .work), shares-fill xs)
     where
@@ -104,25 +103,25 @@ module _ (rf : List Register) (t : Tag) (v : Value) where
 
 -- ---- each rule
 
-module _ (σ : Mach) (m : List Value) (pre : List Template) (a : InstrAddr) (post : List Template) where
+module _ (σ : Mach) (m : List Value) (pre : List Itb) (a : InstrAddr) (post : List Itb) where
   abbrev rf : List Register
   rf = σ .registers
 
   abbrev was : Work → ℕ
-  was w = shares rf (pre ++ template a w ∷ post)
+  was w = shares rf (pre ++ ITB a w ∷ post)
 
-  still-held : (w : Work) → Holds post (template a w ∷ post)
+  still-held : (w : Work) → Holds post (ITB a w ∷ post)
   still-held w s = or-under false (anyHolds s post) (holds s w) (anyHolds s post) (λ e. absurd (false≢true e)) (λ e. e)
 
   -- the template becomes a value
-  becomes-less : (w : Work) (t : Tag) (v : Value) → 4 ≤ share rf w post → shares rf (pre ++ template a (Done t v) ∷ post) < was w
+  becomes-less : (w : Work) (t : Tag) (v : Value) → 4 ≤ share rf w post → shares rf (pre ++ ITB a (Done t v) ∷ post) < was w
   becomes-less w t v h =
-      less-behind rf rf (λ s e. e) pre (template a w ∷ post) (template a (Done t v) ∷ post) (still-held w)
+      less-behind rf rf (λ s e. e) pre (ITB a w ∷ post) (ITB a (Done t v) ∷ post) (still-held w)
       (omega (arith, bit-small (anyHolds t post), bit-small (anyReg t rf)))
 
   -- the template goes
   goes-less : (w : Work) → 1 ≤ share rf w post → shares rf (pre ++ post) < was w
-  goes-less w h = less-behind rf rf (λ s e. e) pre (template a w ∷ post) post (still-held w) (omega arith)
+  goes-less w h = less-behind rf rf (λ s e. e) pre (ITB a w ∷ post) post (still-held w) (omega arith)
 
   lowers-cases : Cases σ m pre a post (λ w r. OnStep (λ σ′ m′. weight σ′ < was w) r)
   lowers-cases =
@@ -130,10 +129,10 @@ module _ (σ : Mach) (m : List Value) (pre : List Template) (a : InstrAddr) (pos
         refuses = λ w n e. tt;
         operates = λ t n u v. becomes-less (Op t n (Known u) (Known v)) t (result n u v) (omega arith);
         forwards = λ t v h.
-            less-behind rf rf (λ s e. e) pre (template a (Done t v) ∷ post) (template a (Done t v) ∷ fillAll t v post) (templates-under t v post)
+            less-behind rf rf (λ s e. e) pre (ITB a (Done t v) ∷ post) (ITB a (Done t v) ∷ fillAll t v post) (templates-under t v post)
             (omega (arith, shares-fill rf t v post, ap bit (templates-gone t v post), ap bit h));
         commits = λ t v h.
-            less-behind rf (fillRegs t v rf) (registers-under t v rf) pre (template a (Done t v) ∷ post) (template a (Done t v) ∷ post) (λ s e. e)
+            less-behind rf (fillRegs t v rf) (registers-under t v rf) pre (ITB a (Done t v) ∷ post) (ITB a (Done t v) ∷ post) (λ s e. e)
             (omega (arith, shares-under rf (fillRegs t v rf) (registers-under t v rf) post, ap bit (registers-gone t v rf), ap bit h));
         retires = λ t v f h. goes-less (Done t v) (omega arith);
         loads = λ t x v e g. becomes-less (Load t (Known (Word x))) t v (omega arith);

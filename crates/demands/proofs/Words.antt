@@ -34,12 +34,11 @@ use Rattle.templates.specs.declared.Operand.{Operand}
 use Rattle.templates.specs.declared.Operand.the-variants.{Known, Waits}
 use Rattle.templates.specs.declared.Work.{Work}
 use Rattle.templates.specs.declared.Work.the-variants.{Done, Op, Jz, Load, Store}
-use Rattle.templates.specs.declared.Template.{Template}
 use Rattle.templates.specs.declared.Register.{Register}
 use Rattle.templates.specs.declared.Counter.{Counter}
 use Rattle.templates.specs.declared.Counter.the-variants.{At, Stall}
-use Rattle.templates.specs.Templates.{sameTag, template, register, fill, fillWork, fillTemplate, contents}
-use Rattle.templates.specs.Layout.{Mach, start, capacity}
+use Rattle.templates.specs.Templates.{sameTag, register, fill, fillWork, contents}
+use Rattle.templates.specs.Machine.{Itb, ITB, fillItb, Mach, start, room}
 use Rattle.sound.proofs.Basics.{by-test}
 use Rattle.rules.specs.declared.Command.{Command}
 use Rattle.rules.specs.declared.Command.the-variants.{Malformed, Issue, Apply}
@@ -119,7 +118,7 @@ InWork (Store x y) = InOperand x × InOperand y
 abbrev InRegister : Register → Type 0
 InRegister r = InOperand (r .holds)
 
-abbrev InTemplate : Template → Type 0
+abbrev InTemplate : Itb → Type 0
 InTemplate x = InWork (x .work)
 
 abbrev InInstr : Instr → Type 0
@@ -190,21 +189,21 @@ module _ (t : Tag) (v : Value) (h : IsWord v) where
 
 -- ---- the rules but issue
 
-module _ (σ : Mach) (m : List Value) (rf : AllOf InRegister (σ .registers)) (l : AllOf IsWord m) (pre : List Template) (a : InstrAddr) (post : List Template) where
+module _ (σ : Mach) (m : List Value) (rf : AllOf InRegister (σ .registers)) (l : AllOf IsWord m) (pre : List Itb) (a : InstrAddr) (post : List Itb) where
   abbrev Was : Work → Type 0
-  Was w = AllOf InTemplate (pre ++ template a w ∷ post)
+  Was w = AllOf InTemplate (pre ++ ITB a w ∷ post)
 
   front : (w : Work) → Was w → AllOf InTemplate pre
-  front w h = all-left InTemplate pre (template a w ∷ post) h
+  front w h = all-left InTemplate pre (ITB a w ∷ post) h
 
   here : (w : Work) → Was w → InWork w
-  here w h = all-right InTemplate pre (template a w ∷ post) h .0
+  here w h = all-right InTemplate pre (ITB a w ∷ post) h .0
 
   back : (w : Work) → Was w → AllOf InTemplate post
-  back w h = all-right InTemplate pre (template a w ∷ post) h .1
+  back w h = all-right InTemplate pre (ITB a w ∷ post) h .1
 
-  with-work : (w w′ : Work) (ts : List Template) → Was w → InWork w′ → AllOf InTemplate ts → AllOf InTemplate (pre ++ template a w′ ∷ ts)
-  with-work w w′ ts h g k = all-append InTemplate pre (template a w′ ∷ ts) (front w h) (g, k)
+  with-work : (w w′ : Work) (ts : List Itb) → Was w → InWork w′ → AllOf InTemplate ts → AllOf InTemplate (pre ++ ITB a w′ ∷ ts)
+  with-work w w′ ts h g k = all-append InTemplate pre (ITB a w′ ∷ ts) (front w h) (g, k)
 
   without : (w : Work) → Was w → AllOf InTemplate (pre ++ post)
   without w h = all-append InTemplate pre post (front w h) (back w h)
@@ -220,7 +219,7 @@ module _ (σ : Mach) (m : List Value) (rf : AllOf InRegister (σ .registers)) (l
             let w = Done t v in
             record {
               registers = rf;
-              templates = with-work w w _ h (here w h) (all-map InTemplate InTemplate (fillTemplate t v) (λ x. work-word t v (here w h) (x .work)) post (back w h));
+              templates = with-work w w _ h (here w h) (all-map InTemplate InTemplate (fillItb t v) (λ x. work-word t v (here w h) (x .work)) post (back w h));
               memory = l;
             };
         commits = λ t v e h.
@@ -267,14 +266,14 @@ module _ (prog : List Instr) (few : length prog ≤ 1024) (ok : AllOf InInstr pr
   issue-words-at : (t : Tag) (ia : InstrAddr) (o : Option Instr) → getElem? prog (ia .0) ≡ o → OnStep HoldWords (tried (issueAt t σ m ia) (present o))
   issue-words-at t ia none e = tt
   issue-words-at t ia (some i) e =
-      by-test (OnStep HoldWords) (leb capacity (length (σ .held))) (λ _. tt)
+      by-test (OnStep HoldWords) (leb room (length (σ .held))) (λ _. tt)
       (λ _.
       by-test (OnStep HoldWords) (tagOk (σ .held) t i)
       (λ _.
       record {
         registers = new-registers t i;
         templates =
-            all-append InTemplate (σ .held) (template ia (workOf (σ .registers) ia t i) ∷ []) (h .templates)
+            all-append InTemplate (σ .held) (ITB ia (workOf (σ .registers) ia t i) ∷ []) (h .templates)
             (new-work t ia (omega (arith, found-inside prog (ia .0) e)) i (all-at InInstr prog (ia .0) ok e), tt);
         memory = h .memory;
       })

@@ -9,11 +9,10 @@ use Rattle.value.specs.declared.Value.{Value}
 use Rattle.isa.specs.declared.InstrAddr.{InstrAddr}
 use Rattle.kernel.specs.Kernel.{Run, going, stopped}
 use Rattle.templates.specs.declared.Operand.the-variants.{Known}
-use Rattle.templates.specs.declared.Template.{Template}
 use Rattle.templates.specs.declared.Register.{Register}
 use Rattle.templates.specs.declared.Counter.the-variants.{At}
 use Rattle.templates.specs.Templates.{register, isMemory}
-use Rattle.templates.specs.Layout.{Mach}
+use Rattle.templates.specs.Machine.{Itb, Mach}
 use Rattle.sound.specs.Sound.{isJz}
 use Rattle.rules.specs.Rules.{refused, apply}
 use Rattle.rules.specs.Drain.{asks}
@@ -33,8 +32,8 @@ pub record Equal (rf : List InOrderRegister) (ia : InstrAddr) (m′ : List Value
 
 -- it stopped at ia, for a reason, with memory m′: the oldest template is a Load, a Store or a Jz from there, and it is refused with that reason, 16 or 17
 pub record Blocked (ia : InstrAddr) (why : ℕ) (m′ : List Value) (σ : Mach) (m : List Value) : Type 0 where
-  pub oldest : Template
-  pub later : List Template
+  pub oldest : Itb
+  pub later : List Itb
   pub held : σ .held ≡ oldest ∷ later
   pub kind : (isMemory (oldest .work) || isJz (oldest .work)) ≡ true
   pub address : oldest .address ≡ ia

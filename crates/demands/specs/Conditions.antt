@@ -17,11 +17,10 @@ use Rattle.templates.specs.declared.Operand.{Operand}
 use Rattle.templates.specs.declared.Operand.the-variants.{Known, Waits}
 use Rattle.templates.specs.declared.Work.{Work}
 use Rattle.templates.specs.declared.Work.the-variants.{Done, Op, Jz, Load, Store}
-use Rattle.templates.specs.declared.Template.{Template}
 use Rattle.templates.specs.declared.Counter.{Counter}
 use Rattle.templates.specs.declared.Counter.the-variants.{At, Stall}
-use Rattle.templates.specs.Templates.{blank, makes, operandAt, anyHolds, anyMemory, anyReg}
-use Rattle.templates.specs.Layout.{Mach, capacity}
+use Rattle.templates.specs.Templates.{makes, operandAt, anyReg}
+use Rattle.templates.specs.Machine.{Itb, nothing, anyHolds, anyMemory, Mach, room}
 use Rattle.sound.specs.Sound.{isJz}
 use Rattle.rules.specs.declared.Rule.{Rule}
 use Rattle.rules.specs.declared.Rule.the-variants as Rule
@@ -112,7 +111,7 @@ isStore (Store x y) = true
 
 -- ---- the rules but issue: of the template with work w, `pre` before it and `post` behind it
 
-module _ (σ : Mach) (m : List Value) (pre post : List Template) (w : Work) where
+module _ (σ : Mach) (m : List Value) (pre post : List Itb) (w : Work) where
   -- its operands
   abbrev pub first : Operand
   first = operandAt w 0
@@ -168,7 +167,7 @@ abbrev pub isThere : Option Instr → Bool
 isThere (some i) = true
 isThere none = false
 
-abbrev pub tagFits : List Template → Tag → Option Instr → Bool
+abbrev pub tagFits : List Itb → Tag → Option Instr → Bool
 tagFits itbs t (some i) = tagOk itbs t i
 tagFits itbs t none = false
 
@@ -179,12 +178,12 @@ conditions prog Malformed σ m = (false else badSchedule) ∷ []
 conditions prog (Issue t) σ m =
     (isAddress (σ .counter) else stalled)
     ∷ (isThere (instrAt prog (σ .counter)) else noInstruction)
-    ∷ (ltb (length (σ .held)) capacity else full)
+    ∷ (ltb (length (σ .held)) room else full)
     ∷ (tagFits (σ .held) t (instrAt prog (σ .counter)) else badTag)
     ∷ []
 conditions prog (Apply r k) σ m =
     (ltb k (length (σ .held)) else noTemplate)
-    ∷ needs σ m (take k (σ .held)) (drop (suc k) (σ .held)) (getD (σ .held) k blank .work) r
+    ∷ needs σ m (take k (σ .held)) (drop (suc k) (σ .held)) (getD (σ .held) k nothing .work) r
 
 -- ---- a step of the in-order machine
 

@@ -22,7 +22,8 @@ use Rattle.templates.specs.declared.State.{State}
 use Rattle.renaming.specs.declared.Stepped.{Stepped}
 use Rattle.renaming.specs.declared.Ran.{Ran}
 use Rattle.renaming.specs.declared.Settled.{Settled}
-use Rattle.renaming.specs.Entries.{entered, enteredRun, Steps, Runs, Drains}
+use Rattle.entry.specs.Entry.{entered}
+use Rattle.renaming.specs.Entries.{enteredRun, Steps, Runs, Drains}
 use Rattle.report.specs.declared.Reported.{Reported}
 use Rattle.report.specs.Report.{isFit, Reports, Shows}
 

@@ -5,7 +5,7 @@ use mathlib.Core.List.{List}
 use lib.ListN.{length}
 use Rattle.value.specs.declared.Value.{Value}
 use Rattle.isa.specs.declared.Instr.{Instr}
-use Rattle.templates.specs.Layout.{Mach, start}
+use Rattle.templates.specs.Machine.{Mach, start}
 use Rattle.rules.specs.declared.Command.{Command}
 use Rattle.rules.specs.Rules.{accepted}
 use Rattle.rules.specs.Run.{End, run}

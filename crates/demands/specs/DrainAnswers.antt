@@ -6,9 +6,10 @@ use mathlib.Core.List.{List}
 use lib.ListN.{length}
 use Rattle.cells.specs.Cells.{cells}
 use Rattle.templates.specs.declared.State.{State}
-use Rattle.templates.specs.Layout.{capacity, machOf}
+use Rattle.templates.specs.Layout.{places, machOf}
 use Rattle.renaming.specs.declared.Settled.{Settled}
-use Rattle.renaming.specs.Entries.{entered, Drains}
+use Rattle.entry.specs.Entry.{entered}
+use Rattle.renaming.specs.Entries.{Drains}
 use Rattle.rules.specs.Moves.{Stuck}
 use Rattle.demands.specs.Agrees.{Blocked}
 
@@ -22,4 +23,4 @@ pub record Answered (s : State) (r : Settled) (b′ : List ℕ) : Type 0 where
 -- of a program p, a state s and a memory b; whatever the entry answers, by its promise
 abbrev pub DrainAnswers : List ℕ → State → List ℕ → Type 0
 DrainAnswers p s b =
-    length (s .templates) ≡ capacity → entered p b s .refusal ≡ 0 → (r : Settled) (b′ : List ℕ) → Drains p s b r b′ → Answered s r b′
+    length (s .templates) ≡ places → entered p b s .refusal ≡ 0 → (r : Settled) (b′ : List ℕ) → Drains p s b r b′ → Answered s r b′

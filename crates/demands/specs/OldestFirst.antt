@@ -4,7 +4,7 @@ use Prim.Native.Nat.{ℕ}
 use mathlib.Core.List.{List, [], _∷_}
 use lib.ListN.{length}
 use Rattle.value.specs.declared.Value.{Value}
-use Rattle.templates.specs.Layout.{Mach}
+use Rattle.templates.specs.Machine.{Mach}
 use Rattle.rules.specs.Rules.{Step, accepted, refused}
 use Rattle.rules.specs.Drain.{Drained}
 use Rattle.rules.specs.Moves.{Move, move, Stuck, continued}

@@ -39,10 +39,13 @@ use Rattle.templates.specs.declared.Work.{Work}
 use Rattle.templates.specs.declared.Template.{Template}
 use Rattle.templates.specs.declared.Register.{Register}
 use Rattle.templates.specs.declared.State.{State}
-use Rattle.templates.specs.Templates.{waits, makes, fill, anyHolds, anyMakes, anyMemory, anyReg, fillRegs, contents, put}
+use Rattle.templates.specs.Templates.{waits, makes, fill, anyReg, fillRegs, contents, put}
 use Rattle.templates.specs.Templates as Templates
-use Rattle.templates.specs.Layout.{stateOf, among, mapFrom, removed}
+use Rattle.templates.specs.Machine.{anyHolds, anyMakes, anyMemory}
+use Rattle.templates.specs.Machine as Mach
+use Rattle.templates.specs.Layout.{itbs, stateOf}
 use Rattle.templates.specs.Layout as Layout
+use Rattle.table.specs.Table.{among, mapFrom, removed}
 use Rattle.sound.specs.Sound as Sound
 use Rattle.renaming.specs.Entries.{Steps, Runs, Drains}
 use Rattle.report.specs.Report.{Reports, Shows}
@@ -89,18 +92,18 @@ pub record OneAnswers : Type 0 where
   pub readAt : (b : List ℕ) (a : Value) → OneAnswer (λ (r′ : Loaded). r′ ≡ Cells.answer (Kernel.readAt (cells b) a))
   pub target : (v : Value) → OneAnswer (λ (r′ : Reached). r′ ≡ reached (Kernel.target v))
   pub inOrderStart : OneAnswer (λ (r′ : InOrder). r′ ≡ Machine.start)
-  pub start : OneAnswer (λ (r′ : State). r′ ≡ stateOf Layout.start)
+  pub start : OneAnswer (λ (r′ : State). r′ ≡ stateOf Mach.start)
   pub waitsFor : (o : Operand) (t : Tag) → OneAnswer (λ (r′ : Bool). r′ ≡ waits t o)
   pub operandAt : (w : Work) (j : ℕ) → OneAnswer (λ (r′ : Operand). r′ ≡ Templates.operandAt w j)
   pub madeBy : (w : Work) → OneAnswer (λ (r′ : Tag). r′ ≡ makes w)
   pub isMemory : (w : Work) → OneAnswer (λ (r′ : Bool). r′ ≡ Templates.isMemory w)
   pub fillOperand : (o : Operand) (t : Tag) (v : Value) → OneAnswer (λ (r′ : Operand). r′ ≡ fill t v o)
-  pub fillTemplate : (x : Template) (t : Tag) (v : Value) → OneAnswer (λ (r′ : Template). r′ ≡ Templates.fillTemplate t v x)
-  pub blank : OneAnswer (λ (r′ : Template). r′ ≡ Templates.blank)
-  pub heldFrom : (ts : List Template) (n from : ℕ) (t : Tag) → OneAnswer (λ (r′ : Bool). r′ ≡ anyHolds t (drop from (take n ts)))
-  pub produced : (ts : List Template) (n : ℕ) (t : Tag) → OneAnswer (λ (r′ : Bool). r′ ≡ anyMakes t (take n ts))
-  pub memoryBefore : (ts : List Template) (n : ℕ) → OneAnswer (λ (r′ : Bool). r′ ≡ anyMemory (take n ts))
-  pub fillFrom : (ts : List Template) (n from : ℕ) (t : Tag) (v : Value) → OneAnswer (λ (r′ : List Template). r′ ≡ among n (mapFrom (Templates.fillTemplate t v) from) ts)
+  pub fillTemplate : (x : Template) (t : Tag) (v : Value) → OneAnswer (λ (r′ : Template). r′ ≡ Layout.fillTemplate t v x)
+  pub blank : OneAnswer (λ (r′ : Template). r′ ≡ Layout.blank)
+  pub heldFrom : (ts : List Template) (n from : ℕ) (t : Tag) → OneAnswer (λ (r′ : Bool). r′ ≡ anyHolds t (drop from (itbs (take n ts))))
+  pub produced : (ts : List Template) (n : ℕ) (t : Tag) → OneAnswer (λ (r′ : Bool). r′ ≡ anyMakes t (itbs (take n ts)))
+  pub memoryBefore : (ts : List Template) (n : ℕ) → OneAnswer (λ (r′ : Bool). r′ ≡ anyMemory (itbs (take n ts)))
+  pub fillFrom : (ts : List Template) (n from : ℕ) (t : Tag) (v : Value) → OneAnswer (λ (r′ : List Template). r′ ≡ among n (mapFrom (Layout.fillTemplate t v) from) ts)
   pub without : (ts : List Template) (n p : ℕ) → OneAnswer (λ (r′ : List Template). r′ ≡ among n (removed p) ts)
   pub heldByRegister : (rf : List Register) (t : Tag) → OneAnswer (λ (r′ : Bool). r′ ≡ anyReg t rf)
   pub fillRegisters : (rf : List Register) (t : Tag) (v : Value) → OneAnswer (λ (r′ : List Register). r′ ≡ fillRegs t v rf)

@@ -5,7 +5,8 @@ use mathlib.Core.Logic.{_⊎_}
 use mathlib.Core.List.{List, map}
 use Rattle.records.specs.Refusal.{isUndefined, outside}
 use Rattle.templates.specs.declared.Counter.the-variants.{At}
-use Rattle.templates.specs.Layout.{start, stateOf}
+use Rattle.templates.specs.Machine.{start}
+use Rattle.templates.specs.Layout.{stateOf}
 use Rattle.renaming.specs.declared.Ran.{Ran}
 use Rattle.renaming.specs.declared.Settled.{Settled}
 use Rattle.renaming.specs.Entries.{enteredRun, Runs, Drains}

@@ -18,11 +18,10 @@ use Rattle.templates.specs.declared.Operand.{Operand}
 use Rattle.templates.specs.declared.Operand.the-variants.{Known, Waits}
 use Rattle.templates.specs.declared.Work.{Work}
 use Rattle.templates.specs.declared.Work.the-variants.{Done, Op, Jz, Load, Store}
-use Rattle.templates.specs.declared.Template.{Template}
 use Rattle.templates.specs.declared.Register.{Register}
 use Rattle.templates.specs.declared.Counter.the-variants.{At, Stall}
-use Rattle.templates.specs.Templates.{template, put}
-use Rattle.templates.specs.Layout.{Mach, mach, start}
+use Rattle.templates.specs.Templates.{put}
+use Rattle.templates.specs.Machine.{Itb, ITB, Mach, mach, start}
 use Rattle.sound.specs.Sound.{soundMach}
 use Rattle.rules.specs.declared.Rule.the-variants as Rule
 use Rattle.rules.specs.declared.Command.{Command}
@@ -63,8 +62,8 @@ abbrev pub r1 : Operand → List Register
 r1 o = put (start .registers) (reg 1) o
 
 -- from the instruction at this address
-abbrev pub from : ℕ → Work → Template
-from a w = template (instrAddr a) w
+abbrev pub from : ℕ → Work → Itb
+from a w = ITB (instrAddr a) w
 
 -- ---- the table
 

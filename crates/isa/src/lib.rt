@@ -9,6 +9,12 @@ use records::Record;
 use records::Verdict;
 use records::refusal;
 
+// Registers are 0 to one below this.
+pub const REGISTERS: usize = 32;
+
+// Operations are 0 to this one.
+pub const LAST_OPERATION: u8 = 4;
+
 // A place in the program.
 pub struct InstrAddr(pub u32);
 

@@ -25,8 +25,9 @@ use Rattle.templates.specs.declared.Template.{Template}
 use Rattle.templates.specs.declared.Counter.{Counter}
 use Rattle.templates.specs.declared.Counter.the-variants.{At, Stall}
 use Rattle.templates.specs.declared.State.{State}
-use Rattle.templates.specs.Templates.{anyHolds, anyMemory, anyReg}
-use Rattle.templates.specs.Layout.{Mach, machOf, Laid, capacity}
+use Rattle.templates.specs.Templates.{anyReg}
+use Rattle.templates.specs.Machine.{Itb, anyHolds, anyMemory, Mach, room}
+use Rattle.templates.specs.Layout.{machOf, Laid}
 use Rattle.templates.proofs.Places.{held-length}
 use Rattle.rules.specs.declared.Rule.{Rule}
 use Rattle.rules.specs.declared.Rule.the-variants as Rule
@@ -68,7 +69,7 @@ module _ (m : List Value) where
   if-condition t u h k Undefined = refl
   if-condition t u h k (Word w) = either (eqb w 0) t u h k
 
-  module _ (σ : Mach) (pre : List Template) (a : InstrAddr) (post : List Template) where
+  module _ (σ : Mach) (pre : List Itb) (a : InstrAddr) (post : List Itb) where
     pub value-keeps : (r : Rule) (t : Tag) (v : Value) → Keeps (rule r σ m pre a post (Done t v))
     value-keeps Rule.Operate t v = refl
     value-keeps Rule.Forward t v = either (anyHolds t post) _ _ refl refl
@@ -113,7 +114,7 @@ module _ (m : List Value) where
   issue-from-keeps : (t : Tag) (σ : Mach) (prog : List Instr) (c : Counter) → Keeps (issueFrom t σ m prog c)
   issue-from-keeps t σ prog Stall = refl
   issue-from-keeps t σ prog (At ia) =
-      if-tried (issueAt t σ m ia) (λ i. either (leb capacity (length (σ .held))) _ _ refl (either (tagOk (σ .held) t i) _ _ refl refl)) (present (getElem? prog (ia .0)))
+      if-tried (issueAt t σ m ia) (λ i. either (leb room (length (σ .held))) _ _ refl (either (tagOk (σ .held) t i) _ _ refl refl)) (present (getElem? prog (ia .0)))
 
   pub issue-keeps : (prog : List Instr) (t : Tag) (σ : Mach) → Keeps (issue prog t σ m)
   unfolding issue

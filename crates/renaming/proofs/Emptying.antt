@@ -26,8 +26,9 @@ use Rattle.templates.specs.declared.Work.{Work}
 use Rattle.templates.specs.declared.Work.the-variants.{Done, Store}
 use Rattle.templates.specs.declared.Template.{Template}
 use Rattle.templates.specs.declared.State.{State}
-use Rattle.templates.specs.Templates.{template, blank, anyHolds, anyReg}
-use Rattle.templates.specs.Layout.{Mach, machOf, Laid}
+use Rattle.templates.specs.Templates.{anyReg}
+use Rattle.templates.specs.Machine.{Itb, ITB, nothing, anyHolds, Mach}
+use Rattle.templates.specs.Layout.{blank, itbs, machOf, Laid}
 use Rattle.templates.proofs.Places.{held-length}
 use Rattle.sound.proofs.Decides.{sound-said}
 use Rattle.rules.specs.declared.Rule.{Rule}
@@ -38,7 +39,8 @@ use Rattle.rules.specs.Rules as Rules
 use Rattle.rules.specs.Rules.{Step, refused, apply, storing}
 use Rattle.renaming.specs.Answers.{answerOf, before, behind, Stands, at, Fit, Acts}
 use Rattle.rules.specs.Drain.{first, rules, firstOf, seek, oldest, Drained, further, drainFrom, drain, due, asks, refusal, blocking, blockedAt, retireRefusal, storeRefusal}
-use Rattle.renaming.specs.Entries.{entered, settled, drained, drainedMemory, Drains, Empties}
+use Rattle.entry.specs.Entry.{entered}
+use Rattle.renaming.specs.Entries.{settled, drained, drainedMemory, Drains, Empties}
 use Rattle.renaming.proofs.Changes.{standing}
 use Rattle.renaming.proofs.Applied.{apply-at}
 use Rattle.rules.proofs.Keeping.{apply-keeps-sound}
@@ -53,7 +55,7 @@ refusal-of s (Rules.accepted σ m) e = ap (λ (x : Answer). x .refusal) e
 refusal-of s (refused n) e = ap (λ (x : Answer). x .refusal) e
 
 nobody : (s : State) → s .count ≡ 0 → machOf s .held ≡ []
-nobody s e = ap (λ (n : ℕ). take n (s .templates)) e
+nobody s e = ap (λ (n : ℕ). itbs (take n (s .templates))) e
 
 pub blocking-none : (s : State) (m : List Value) → s .count ≡ 0 → 0 ≡ blocking (machOf s) m (machOf s .held)
 blocking-none s m e = sym (ap (blocking (machOf s) m) (nobody s e))
@@ -63,10 +65,10 @@ blocked-nowhere s e = sym (ap blockedAt (nobody s e))
 
 module _ (s : State) (x : Template) (w : Work) (h : Stands s 0 x w) where
   -- the oldest stands in front
-  front : machOf s .held ≡ template (x .address) w ∷ drop 1 (machOf s .held)
+  front : machOf s .held ≡ ITB (x .address) w ∷ drop 1 (machOf s .held)
   front =
-      drop-cons (machOf s .held) 0 blank (omega (arith, held-length s (h .laid), h .place))
-      ∙ ap (λ (y : Template). y ∷ drop 1 (machOf s .held)) (standing s 0 x w h)
+      drop-cons (machOf s .held) 0 nothing (omega (arith, held-length s (h .laid), h .place))
+      ∙ ap (λ (y : Itb). y ∷ drop 1 (machOf s .held)) (standing s 0 x w h)
 
   pub blocking-is : (m : List Value) → refusal (at (asks w) s 0 x w m) ≡ blocking (machOf s) m (machOf s .held)
   blocking-is m = ap refusal (sym (apply-at s (asks w) 0 m x w h)) ∙ sym (ap (blocking (machOf s) m) front)
@@ -105,7 +107,7 @@ numbers-alike m (Word w) v = at (decLt w (length m))
     at (yes h) = rw (lt-ltb w (length m) h) (sym (load-inside m w h))
     at (no h) = rw (le-ltb w (length m) (omega arith)) (sym (load-outside m w (omega arith)))
 
-stored-refusal : (s : State) (pre post : List Template) (t : Try (List Value)) → refusal (storing (machOf s) pre post t) ≡ number t
+stored-refusal : (s : State) (pre post : List Itb) (t : Try (List Value)) → refusal (storing (machOf s) pre post t) ≡ number t
 stored-refusal s pre post (got m) = refl
 stored-refusal s pre post (fails n) = refl
 

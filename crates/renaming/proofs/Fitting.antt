@@ -5,7 +5,7 @@ use Prim.Native.Nat.{ℕ, zero, suc, _/_, _<_}
 use native.Mathlib.Omega.{arith}
 use mathlib.Core.Bool.{Bool, true, false, cond}
 use mathlib.Core.List.{List, [], _∷_}
-use lib.ListN.{length, getD}
+use lib.ListN.{length, getD, take, List·getD-map}
 use lib.Seq.{getD-take}
 use Rattle.records.specs.declared.Verdict.{Verdict}
 use Rattle.records.specs.Refusal.{unsound}
@@ -16,10 +16,9 @@ use Rattle.isa.proofs.Programs.{length-program, program-whole}
 use Rattle.cells.specs.Cells.{cells, Formed}
 use Rattle.kernel.specs.Checks.{checked}
 use Rattle.kernel.proofs.Checking.{both-accept, checked-program, checked-memory}
-use Rattle.templates.specs.declared.Template.{Template}
 use Rattle.templates.specs.declared.State.{State}
-use Rattle.templates.specs.Templates.{blank}
-use Rattle.templates.specs.Layout.{machOf, Laid}
+use Rattle.templates.specs.Machine.{Itb, nothing}
+use Rattle.templates.specs.Layout.{itb, blank, machOf, Laid}
 use Rattle.templates.proofs.Places.{machOf-stateOf, stateOf-laid, held-length}
 use Rattle.sound.specs.Sound.{Produced, none, after, isSound}
 use Rattle.sound.proofs.Soundness.{TemplatesOk, Sound}
@@ -30,7 +29,7 @@ use Rattle.rules.specs.Rules as Rules
 use Rattle.rules.specs.Rules.{Step, refused}
 use Rattle.rules.specs.Schedule.{obey}
 use Rattle.renaming.specs.Answers.{Fit, Within, Acts, Obeys}
-use Rattle.renaming.specs.Entries.{entered, Enters}
+use Rattle.entry.specs.Entry.{entered, Enters}
 use Rattle.isa.proofs.Formed.{program-formed}
 use Rattle.rules.proofs.Keeping.{StaysSound, obey-keeps-sound}
 use Rattle.rules.proofs.Numbered.{Numbered, obey-numbered}
@@ -63,7 +62,7 @@ module _ (p b : List ℕ) (s : State) {v : Verdict} (e : Enters p b s v) (h : v 
 
 -- ---- every template is inside the program
 
-templates-inside : (k : ℕ) (made : Produced) (xs : List Template) → TemplatesOk k made xs → (i : ℕ) → i < length xs → getD xs i blank .address .0 < k
+templates-inside : (k : ℕ) (made : Produced) (xs : List Itb) → TemplatesOk k made xs → (i : ℕ) → i < length xs → getD xs i nothing .address .0 < k
 templates-inside k made [] h i l = absurd (omega arith)
 templates-inside k made (x ∷ xs) h zero l = h .0
 templates-inside k made (x ∷ xs) h (suc i) l = templates-inside k (after (x .work) made) xs (h .2) i (omega arith)
@@ -71,9 +70,10 @@ templates-inside k made (x ∷ xs) h (suc i) l = templates-inside k (after (x .w
 pub fit-within : (p : List ℕ) (s : State) → Program.scanOf p ≡ accepted → Fit p s → Within s
 fit-within p s a f i l =
     let few = program-whole p a .few in
-    let here : getD (machOf s .held) i blank ≡ getD (s .templates) i blank = getD-take (s .count) (s .templates) i blank l in
+    let here : getD (machOf s .held) i nothing ≡ itb (getD (s .templates) i blank) =
+    List·getD-map itb (take (s .count) (s .templates)) i blank ∙ ap itb (getD-take (s .count) (s .templates) i blank l) in
     let inside = templates-inside (length p / 8) none (machOf s .held) (sound-said (length p / 8) (machOf s) .holds (f .sound) .templates) i (omega (arith, held-length s (f .laid))) in
-    omega (arith, ap (λ (x : Template). x .address .0) here)
+    omega (arith, ap (λ (x : Itb). x .address .0) here)
 
 -- ---- an answer and the rule
 

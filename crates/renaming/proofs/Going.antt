@@ -25,7 +25,8 @@ use Rattle.renaming.specs.declared.Ran.{Ran}
 use Rattle.rules.specs.Schedule.{commandOf, obey}
 use Rattle.rules.specs.Run.{End, commands, counted, proceed, runFrom}
 use Rattle.renaming.specs.Answers.{Fit, Acts, Obeys}
-use Rattle.renaming.specs.Entries.{entered, enteredWith, once, stepAnswer, stepped, steppedMemory, Steps, enteredRun, runs, ended, ran, ranMemory, Runs, Goes}
+use Rattle.entry.specs.Entry.{entered}
+use Rattle.renaming.specs.Entries.{enteredWith, once, stepAnswer, stepped, steppedMemory, Steps, enteredRun, runs, ended, ran, ranMemory, Runs, Goes}
 use Rattle.renaming.proofs.Fitting.{acts-refused, acts-stay, obeyed, still-fit}
 
 -- ---- step

@@ -15,26 +15,27 @@ use Rattle.isa.specs.declared.Instr.{Instr}
 use Rattle.isa.specs.Program.{present}
 use Rattle.templates.specs.declared.Counter.the-variants.{At, Stall}
 use Rattle.templates.specs.declared.State.{State}
-use Rattle.templates.specs.Templates.{template}
-use Rattle.templates.specs.Layout.{machOf, stateOf, Laid, capacity}
-use Rattle.templates.proofs.Places.{places, held-length, state-snoc}
+use Rattle.templates.specs.Machine.{ITB, room}
+use Rattle.templates.specs.Layout.{template, machOf, stateOf, Laid}
+use Rattle.templates.proofs.Places.{placed, held-length}
+use Rattle.table.proofs.Placed.{state-snoc}
 use Rattle.rules.specs.Rules.{accepted, refused, tried, counterAfter, renamed, workOf, tagOk, issued, issueAt, issueFrom, issue}
 
 module _ (s : State) (l : Laid s) (t : Tag) (ia : InstrAddr) (i : Instr) (m : List Value) where
-  pub issue-full : capacity ≤ s .count → issueAt t (machOf s) m ia i ≡ refused full
-  issue-full h = rw (le-leb capacity (length (machOf s .held)) (omega (arith, held-length s l))) refl
+  pub issue-full : room ≤ s .count → issueAt t (machOf s) m ia i ≡ refused full
+  issue-full h = rw (le-leb room (length (machOf s .held)) (omega (arith, held-length s l))) refl
 
-  pub issue-tag : s .count < capacity → tagOk (machOf s .held) t i ≡ false → issueAt t (machOf s) m ia i ≡ refused badTag
-  issue-tag h e = rw (lt-leb capacity (length (machOf s .held)) (omega (arith, held-length s l)), e) refl
+  pub issue-tag : s .count < room → tagOk (machOf s .held) t i ≡ false → issueAt t (machOf s) m ia i ≡ refused badTag
+  issue-tag h e = rw (lt-leb room (length (machOf s .held)) (omega (arith, held-length s l)), e) refl
 
-  pub issue-done : s .count < capacity → tagOk (machOf s .held) t i ≡ true → issueAt t (machOf s) m ia i ≡ accepted (issued t (machOf s) m ia i) m
-  issue-done h e = rw (lt-leb capacity (length (machOf s .held)) (omega (arith, held-length s l)), e) refl
+  pub issue-done : s .count < room → tagOk (machOf s .held) t i ≡ true → issueAt t (machOf s) m ia i ≡ accepted (issued t (machOf s) m ia i) m
+  issue-done h e = rw (lt-leb room (length (machOf s .held)) (omega (arith, held-length s l)), e) refl
 
 -- the new last template, in the table
-pub extended : (s : State) (l : Laid s) (t : Tag) (ia : InstrAddr) (i : Instr) (m : List Value) → s .count < capacity
-    → places (counterAfter ia i) (renamed (s .registers) t i) (set (s .templates) (s .count) (template ia (workOf (s .registers) ia t i))) (s .count + 1)
+pub extended : (s : State) (l : Laid s) (t : Tag) (ia : InstrAddr) (i : Instr) (m : List Value) → s .count < room
+    → placed (counterAfter ia i) (renamed (s .registers) t i) (set (s .templates) (s .count) (template (ITB ia (workOf (s .registers) ia t i)))) (s .count + 1)
     ≡ stateOf (issued t (machOf s) m ia i)
-extended s l t ia i m h = state-snoc s l (counterAfter ia i) (renamed (s .registers) t i) (template ia (workOf (s .registers) ia t i)) h
+extended s l t ia i m h = state-snoc s l (counterAfter ia i) (renamed (s .registers) t i) (ITB ia (workOf (s .registers) ia t i)) h
 
 -- ---- at the counter
 

@@ -11,8 +11,8 @@ use Rattle.cells.specs.Cells.{cells, Formed}
 use Rattle.templates.specs.declared.Work.{Work}
 use Rattle.templates.specs.declared.Template.{Template}
 use Rattle.templates.specs.declared.State.{State}
-use Rattle.templates.specs.Templates.{blank}
-use Rattle.templates.specs.Layout.{Mach, machOf, stateOf, Laid}
+use Rattle.templates.specs.Machine.{Itb, Mach}
+use Rattle.templates.specs.Layout.{blank, machOf, stateOf, Laid}
 use Rattle.sound.specs.Sound.{soundMach}
 use Rattle.rules.specs.declared.Rule.{Rule}
 use Rattle.rules.specs.declared.Command.{Command}
@@ -38,10 +38,10 @@ memoryOf m (refused n) = m
 
 -- ---- a template at its place
 
-abbrev pub before : State → ℕ → List Template
+abbrev pub before : State → ℕ → List Itb
 before s p = take p (machOf s .held)
 
-abbrev pub behind : State → ℕ → List Template
+abbrev pub behind : State → ℕ → List Itb
 behind s p = drop (suc p) (machOf s .held)
 
 -- the template x, with work w, stands at place p

@@ -1,19 +1,19 @@
 -- The entries of the renaming machine on bytes, with their checks.
 use mathlib.Core.Path.{_≡_}
-use Prim.Native.Nat.{ℕ, _/_, _%_}
+use Prim.Native.Nat.{ℕ, _%_}
 use mathlib.Core.Bool.{cond}
 use mathlib.Core.List.{List}
 use lib.Dec.{eqb}
 use lib.ListN.{length, getD}
 use Rattle.records.specs.declared.Verdict.{Verdict}
-use Rattle.records.specs.Refusal.{badLength, unsound}
-use Rattle.records.specs.Scan.{verdict, accepted}
+use Rattle.records.specs.Refusal.{badLength}
+use Rattle.records.specs.Scan.{verdict}
 use Rattle.isa.specs.Program.{program}
 use Rattle.cells.specs.Cells.{cells, image, Formed}
-use Rattle.kernel.specs.Checks.{first, checked, ifChecked}
+use Rattle.kernel.specs.Checks.{ifChecked}
 use Rattle.templates.specs.declared.State.{State}
-use Rattle.templates.specs.Layout.{capacity, machOf, stateOf}
-use Rattle.sound.specs.Sound.{isSound}
+use Rattle.templates.specs.Layout.{machOf, stateOf}
+use Rattle.entry.specs.Entry.{entered}
 use Rattle.rules.specs.declared.Command.{Command}
 use Rattle.renaming.specs.declared.Answer.{Answer}
 use Rattle.renaming.specs.declared.Stepped.{Stepped}
@@ -24,15 +24,6 @@ use Rattle.rules.specs.Schedule.{commandOf, obey}
 use Rattle.rules.specs.Run.{End, commands, run}
 use Rattle.rules.specs.Drain.{Drained, drain, blocking, blockedAt}
 use Rattle.renaming.specs.Answers.{answerOf, memoryOf}
-
--- refusals 1 to 4 of a program, a memory and a state
-unfoldable pub entered : List ℕ → List ℕ → State → Verdict
-entered p b s = first (checked p b) (cond (isSound (length p / 8) s) accepted (verdict unsound 0))
-
--- the verdict, of a state whose table has its places
-pub record Enters (p b : List ℕ) (s : State) (v : Verdict) : Type 0 where
-  pub verdict : v ≡ entered p b s
-  pub long : length (s .templates) ≡ capacity
 
 -- ---- step
 

@@ -1,8 +1,9 @@
 // The answers that a rule gives: the state as it was, or with one change.
 ghost use mathlib.Core.Path.{_≡_};
 ghost use mathlib.Core.List.{_∷_, _++_};
-ghost use Rattle.templates.specs.Templates.{template, fillAll, fillRegs};
-ghost use Rattle.templates.specs.Layout.{mach, machOf};
+ghost use Rattle.templates.specs.Templates.{fillRegs};
+ghost use Rattle.templates.specs.Machine.{ITB, fillAll, with};
+ghost use Rattle.templates.specs.Layout.{machOf};
 ghost use Rattle.rules.specs.Rules.{holding};
 ghost use Rattle.renaming.specs.Answers.{answer, done, before, behind, Stands};
 use crate::Answer;
@@ -12,7 +13,6 @@ use templates::Counter;
 use templates::State;
 use templates::Template;
 use templates::Work;
-use templates::table;
 use value::Value;
 
 pub(crate) fn refused(s: State, n: u8) -> Answer
@@ -36,7 +36,7 @@ pub(crate) fn accepted(s: State) -> Answer
 // The template x at place p gets other work.
 pub(crate) fn rework(s: State, p: usize, x: Template, was: Work, w: Work) -> Answer
     requires { ⌜ Stands s p x was ⌝ }
-    ensures { λ r. ⌜ r ≡ done (holding (machOf s) (before s p ++ template (x .address) w ∷ behind s p)) ⌝ }
+    ensures { λ r. ⌜ r ≡ done (holding (machOf s) (before s p ++ ITB (x .address) w ∷ behind s p)) ⌝ }
 {
     let mut next = s;
     let address = x.address;
@@ -50,7 +50,7 @@ pub(crate) fn rework(s: State, p: usize, x: Template, was: Work, w: Work) -> Ans
 // The tag filled in behind the value template x at place p.
 pub(crate) fn fill_behind(s: State, p: usize, x: Template, t: Tag, v: Value) -> Answer
     requires { ⌜ Stands s p x (Work.Done t v) ⌝ }
-    ensures { λ r. ⌜ r ≡ done (holding (machOf s) (before s p ++ template (x .address) (Work.Done t v) ∷ fillAll t v (behind s p))) ⌝ }
+    ensures { λ r. ⌜ r ≡ done (holding (machOf s) (before s p ++ ITB (x .address) (Work.Done t v) ∷ fillAll t v (behind s p))) ⌝ }
 {
     let ts = s.templates;
     let n = s.count;
@@ -63,7 +63,7 @@ pub(crate) fn fill_behind(s: State, p: usize, x: Template, t: Tag, v: Value) -> 
 // The tag filled in in the registers; the value template x stays at place p.
 pub(crate) fn fill_register(s: State, p: usize, x: Template, t: Tag, v: Value) -> Answer
     requires { ⌜ Stands s p x (Work.Done t v) ⌝ }
-    ensures { λ r. ⌜ r ≡ done (mach (s .counter) (fillRegs t v (s .registers)) (before s p ++ template (x .address) (Work.Done t v) ∷ behind s p)) ⌝ }
+    ensures { λ r. ⌜ r ≡ done (with (machOf s) (s .counter) (fillRegs t v (s .registers)) (before s p ++ ITB (x .address) (Work.Done t v) ∷ behind s p)) ⌝ }
 {
     let rf = s.registers;
     let filled = table::fill_registers(rf, t, v);
@@ -89,7 +89,7 @@ pub(crate) fn remove(s: State, p: usize, x: Template, was: Work) -> Answer
 // The Jz x at place p is removed, and the counter is set.
 pub(crate) fn go_to(s: State, p: usize, x: Template, was: Work, ia: InstrAddr) -> Answer
     requires { ⌜ Stands s p x was ⌝ }
-    ensures { λ r. ⌜ r ≡ done (mach (Counter.At ia) (s .registers) (before s p ++ behind s p)) ⌝ }
+    ensures { λ r. ⌜ r ≡ done (with (machOf s) (Counter.At ia) (s .registers) (before s p ++ behind s p)) ⌝ }
 {
     let ts = s.templates;
     let rf = s.registers;

@@ -8,7 +8,6 @@ use rules::Rule;
 use templates::State;
 use templates::Template;
 use templates::Work;
-use templates::table;
 use value::Value;
 
 fn forward(s: State, p: usize, x: Template, t: Tag, v: Value) -> Answer

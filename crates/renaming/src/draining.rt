@@ -4,13 +4,12 @@ ghost use Prim.Native.Nat.{_<_};
 ghost use Rattle.records.specs.Scan.{accepted};
 ghost use Rattle.isa.specs.Program.{scanOf};
 ghost use Rattle.cells.specs.Cells.{cells};
-ghost use Rattle.templates.specs.Layout.{machOf, Laid};
+ghost use Rattle.templates.specs.Layout.{places, machOf, Laid};
 ghost use Rattle.rules.specs.Drain.{due, dueValue, dueJump, retireRefusal, storeRefusal, blocking, blockedAt};
 ghost use Rattle.renaming.specs.Answers.{behind, Fit, Within};
 ghost use Rattle.renaming.specs.Entries.{settled, Empties, Drains};
 use crate::Settled;
 use crate::apply;
-use crate::entry;
 use crate::memory;
 use crate::waiting;
 use cells::Loaded;
@@ -19,14 +18,17 @@ use isa::Tag;
 use records::refusal;
 use rules::Rule;
 use templates::Operand;
+use templates::ROOM;
 use templates::State;
 use templates::Work;
-use templates::table;
 use value::Value;
+
+// Four rules for each template are enough.
+const MOST_RULES: usize = 4 * ROOM;
 
 // The one rule that can be the lowest allowed at a template, so that no other is tried and no state copied for it.
 fn due(s: State, p: usize, w: Work) -> Rule
-    requires { ⌜ p < 64 ⌝ }
+    requires { ⌜ p < places ⌝ }
     ensures { λ r. ⌜ r ≡ due (s .registers) (behind s p) w ⌝ }
 {
     match w {
@@ -39,7 +41,7 @@ fn due(s: State, p: usize, w: Work) -> Rule
 }
 
 fn due_value(s: State, p: usize, t: Tag) -> Rule
-    requires { ⌜ p < 64 ⌝ }
+    requires { ⌜ p < places ⌝ }
     ensures { λ r. ⌜ r ≡ dueValue (s .registers) (behind s p) t ⌝ }
 {
     let ts = s.templates;
@@ -148,7 +150,7 @@ fn settle(s: State, rules: usize, memory: &[u8]) -> Settled
     }
 }
 
-// The drain of a state that was checked. Each search starts at the oldest; four rules for each of 64 templates are enough.
+// The drain of a state that was checked. Each search starts at the oldest.
 fn empty(s: State, program: &[u8], memory: &mut [u8]) -> Settled
     requires { ⌜ Fit (now program) s × (scanOf (now program) ≡ accepted) ⌝ }
     ensures { λ r. ⌜ Empties s (now (memory .entry)) r (now (memory .exit)) ⌝ }
@@ -156,7 +158,7 @@ fn empty(s: State, program: &[u8], memory: &mut [u8]) -> Settled
     let mut state = s;
     let mut rules: usize = 0;
     let mut p: usize = 0;
-    while rules < 256 {
+    while rules < MOST_RULES {
         if p >= state.count {
             return settle(state, rules, &memory[..]);
         }

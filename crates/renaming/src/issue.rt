@@ -4,27 +4,30 @@ ghost use Prim.Native.Nat.{_<_};
 ghost use lib.ListN.{take};
 ghost use Rattle.records.specs.Scan.{accepted};
 ghost use Rattle.isa.specs.Program.{scanOf};
-ghost use Rattle.templates.specs.Layout.{machOf, Laid};
+ghost use Rattle.templates.specs.Layout.{itbs, machOf, Laid};
 ghost use Rattle.rules.specs.Rules.{isFresh, tagSuits, workOf, renamed, counterAfter, issueAt};
 ghost use Rattle.renaming.specs.Answers.{Gives, Issues};
 use crate::Answer;
 use crate::change;
 use isa::Instr;
 use isa::InstrAddr;
+use isa::REGISTERS;
 use isa::Reading;
 use isa::Tag;
 use records::refusal;
 use templates::Counter;
+use templates::LAST_TAG;
 use templates::Operand;
+use templates::PLACES;
+use templates::ROOM;
 use templates::Register;
 use templates::State;
 use templates::Template;
 use templates::Work;
-use templates::table;
 use value::Value;
 
 // The new template's work: the operands' present contents.
-fn work_of(rf: [Register; 32], ia: InstrAddr, t: Tag, i: Instr) -> Work
+fn work_of(rf: [Register; REGISTERS], ia: InstrAddr, t: Tag, i: Instr) -> Work
     ensures { λ w. ⌜ w ≡ workOf rf ia t i ⌝ }
 {
     match i {
@@ -46,7 +49,7 @@ fn work_of(rf: [Register; 32], ia: InstrAddr, t: Tag, i: Instr) -> Work
 }
 
 // The registers with the tag in the destination.
-fn rename(rf: [Register; 32], t: Tag, i: Instr) -> [Register; 32]
+fn rename(rf: [Register; REGISTERS], t: Tag, i: Instr) -> [Register; REGISTERS]
     ensures { λ a. ⌜ a ≡ renamed rf t i ⌝ }
 {
     match i {
@@ -75,11 +78,11 @@ fn counter_after(ia: InstrAddr, i: Instr) -> Counter
 }
 
 // A tag is unused when no template produces it; that no register holds it says nothing.
-fn is_fresh(ts: [Template; 64], n: usize, t: Tag) -> bool
-    ensures { λ r. ⌜ r ≡ isFresh t (take n ts) ⌝ }
+fn is_fresh(ts: [Template; PLACES], n: usize, t: Tag) -> bool
+    ensures { λ r. ⌜ r ≡ isFresh t (itbs (take n ts)) ⌝ }
 {
     let unused = !table::produced(ts, n, t);
-    (0 < t.0) & ((t.0 <= 64) & unused)
+    (0 < t.0) & ((t.0 <= LAST_TAG) & unused)
 }
 
 fn tag_suits(fresh: bool, t: Tag, i: Instr) -> bool
@@ -101,7 +104,7 @@ fn issue_at(s: State, t: Tag, ia: InstrAddr, i: Instr) -> Answer
     ensures { λ r. ⌜ Gives s (λ m. issueAt t (machOf s) m ia i) r ⌝ }
 {
     let n = s.count;
-    if n >= 64 {
+    if n >= ROOM {
         return change::refused(s, refusal::FULL);
     }
     let mut ts = s.templates;

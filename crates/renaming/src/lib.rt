@@ -3,16 +3,16 @@ mod apply;
 mod change;
 mod done;
 mod draining;
-mod entry;
 mod issue;
 mod memory;
+mod obeying;
 mod running;
-mod schedule;
+mod stepping;
 mod waiting;
 
 pub use crate::draining::drain;
-pub use crate::entry::step;
 pub use crate::running::run;
+pub use crate::stepping::step;
 
 // The state after a rule, and the refusal, 0 if there is none.
 pub struct Answer {

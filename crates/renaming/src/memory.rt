@@ -15,7 +15,6 @@ use templates::Operand;
 use templates::State;
 use templates::Template;
 use templates::Work;
-use templates::table;
 use value::Value;
 
 pub(crate) fn load(s: State, p: usize, x: Template, t: Tag, a: Operand, memory: &[u8]) -> Answer

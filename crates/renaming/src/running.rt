@@ -7,8 +7,7 @@ ghost use Rattle.rules.specs.Run.{counted};
 ghost use Rattle.renaming.specs.Answers.{Fit};
 ghost use Rattle.renaming.specs.Entries.{Goes, Runs};
 use crate::Ran;
-use crate::entry;
-use crate::schedule;
+use crate::obeying;
 use records::refusal;
 use rules::Command;
 use templates::State;
@@ -41,7 +40,7 @@ fn go(s: State, program: &[u8], memory: &mut [u8], records: &[u8]) -> Ran
             records[at + 2],
             records[at + 3],
         );
-        let answer = schedule::obey(state, program, memory, c);
+        let answer = obeying::obey(state, program, memory, c);
         let no = answer.refusal;
         state = answer.state;
         if no != 0 {

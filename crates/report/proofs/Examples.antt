@@ -14,7 +14,8 @@ use Rattle.rules.specs.Rules.{issue, apply}
 use Rattle.rules.specs.Schedule.{commandOf, obey}
 use Rattle.rules.specs.Run.{commands, runFrom}
 use Rattle.rules.specs.Drain.{drainFrom, oldest}
-use Rattle.renaming.specs.Entries.{entered, ran, ranMemory, drained, drainedMemory}
+use Rattle.entry.specs.Entry.{entered}
+use Rattle.renaming.specs.Entries.{ran, ranMemory, drained, drainedMemory}
 use Rattle.text.specs.Text.{ascii, decimal, numbered}
 use Rattle.report.specs.Lines.{ranText, drainedText, endText, counterText, namedText, valueText, operandText, contentsText}
 use Rattle.report.specs.Report.{judged, runText, report}

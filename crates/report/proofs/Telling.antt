@@ -4,7 +4,8 @@ use Prim.Native.Nat.{ℕ}
 use mathlib.Core.List.{List}
 use Rattle.cells.specs.Cells.{cells}
 use Rattle.templates.specs.declared.State.{State}
-use Rattle.templates.specs.Layout.{start, stateOf}
+use Rattle.templates.specs.Machine.{start}
+use Rattle.templates.specs.Layout.{stateOf}
 use Rattle.renaming.specs.declared.Ran.{Ran}
 use Rattle.renaming.specs.declared.Settled.{Settled}
 use Rattle.renaming.specs.Entries.{ran, ranMemory, drained, drainedMemory, Runs, Drains}

@@ -13,7 +13,8 @@ use Rattle.cells.specs.Cells as Cells
 use Rattle.cells.specs.Cells.{cells}
 use Rattle.text.specs.Text.{into, ascii, decimal}
 use Rattle.templates.specs.declared.State.{State}
-use Rattle.templates.specs.Layout.{start, stateOf}
+use Rattle.templates.specs.Machine.{start}
+use Rattle.templates.specs.Layout.{stateOf}
 use Rattle.renaming.specs.declared.Ran.{Ran}
 use Rattle.renaming.specs.declared.Settled.{Settled}
 use Rattle.renaming.specs.Entries.{ran, ranMemory, drained, drainedMemory}

@@ -9,7 +9,7 @@ use lib.ListN.{length, take}
 use lib.Seq.{take-length}
 use Rattle.value.specs.declared.Value.{Value}
 use Rattle.isa.specs.declared.Instr.{Instr}
-use Rattle.templates.specs.Layout.{Mach}
+use Rattle.templates.specs.Machine.{Mach}
 use Rattle.rules.specs.declared.Command.{Command}
 use Rattle.rules.specs.declared.Command.the-variants.{Malformed, Issue, Apply}
 use Rattle.rules.specs.Rules.{Step, accepted, refused}

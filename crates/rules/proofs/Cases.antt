@@ -23,9 +23,8 @@ use Rattle.templates.specs.declared.Operand.{Operand}
 use Rattle.templates.specs.declared.Operand.the-variants.{Known, Waits}
 use Rattle.templates.specs.declared.Work.{Work}
 use Rattle.templates.specs.declared.Work.the-variants.{Done, Op, Jz, Load, Store}
-use Rattle.templates.specs.declared.Template.{Template}
-use Rattle.templates.specs.Templates.{template, blank, anyHolds, anyMemory, anyReg, fillAll, fillRegs}
-use Rattle.templates.specs.Layout.{Mach, mach}
+use Rattle.templates.specs.Templates.{anyReg, fillRegs}
+use Rattle.templates.specs.Machine.{Itb, ITB, nothing, anyHolds, anyMemory, fillAll, Mach, mach}
 use Rattle.rules.specs.declared.Rule.{Rule}
 use Rattle.rules.specs.declared.Rule.the-variants as Rule
 use Rattle.rules.specs.Rules.{Step, accepted, refused, holding, tried, known, condition, onValue, onOp, onJz, onLoad, onStore, becomes, goTo, rule, apply}
@@ -39,13 +38,13 @@ OnStep P (accepted σ m) = P σ m
 OnStep P (refused n) = Unit
 
 -- what is to be shown of P for every rule at a template of address a, with `pre` before it and `post` behind it
-pub record Cases (σ : Mach) (m : List Value) (pre : List Template) (a : InstrAddr) (post : List Template) (P : Work → Step → Type 0) : Type 0 where
+pub record Cases (σ : Mach) (m : List Value) (pre : List Itb) (a : InstrAddr) (post : List Itb) (P : Work → Step → Type 0) : Type 0 where
   pub refuses : (w : Work) (n : ℕ) → n ≢ 0 → P w (refused n)
   pub operates : (t : Tag) (n : ℕ) (u v : Value) → P (Op t n (Known u) (Known v)) (becomes σ m pre a post (Done t (result n u v)))
   pub forwards : (t : Tag) (v : Value) → anyHolds t post ≡ true
-      → P (Done t v) (accepted (holding σ (pre ++ template a (Done t v) ∷ fillAll t v post)) m)
+      → P (Done t v) (accepted (holding σ (pre ++ ITB a (Done t v) ∷ fillAll t v post)) m)
   pub commits : (t : Tag) (v : Value) → anyReg t (σ .registers) ≡ true
-      → P (Done t v) (accepted (mach (σ .counter) (fillRegs t v (σ .registers)) (pre ++ template a (Done t v) ∷ post)) m)
+      → P (Done t v) (accepted (mach (σ .counter) (fillRegs t v (σ .registers)) (pre ++ ITB a (Done t v) ∷ post)) m)
   pub retires : (t : Tag) (v : Value) → anyReg t (σ .registers) ≡ false → anyHolds t post ≡ false
       → P (Done t v) (accepted (holding σ (pre ++ post)) m)
   pub loads : (t : Tag) (x : ℕ) (v : Value) → getElem? m x ≡ some v → MayLoad x (length m) pre
@@ -56,7 +55,7 @@ pub record Cases (σ : Mach) (m : List Value) (pre : List Template) (a : InstrAd
   pub jumps : (u : Value) (y : Operand) (ia : InstrAddr) → ((e : Env) → branch a u (resolve e y) ≡ got ia)
       → P (Jz (Known u) y) (goTo σ m pre a post ia)
 
-module _ (σ : Mach) (m : List Value) (pre : List Template) (a : InstrAddr) (post : List Template) (P : Work → Step → Type 0)
+module _ (σ : Mach) (m : List Value) (pre : List Itb) (a : InstrAddr) (post : List Itb) (P : Work → Step → Type 0)
     (k : Cases σ m pre a post P) where
   -- ---- the conditions
 
@@ -176,31 +175,31 @@ module _ (σ : Mach) (m : List Value) (pre : List Template) (a : InstrAddr) (pos
 
 -- ---- at a place
 
-behind : (pre : List Template) (x : Template) (xs : List Template) → drop (suc (length pre)) (pre ++ x ∷ xs) ≡ xs
+behind : (pre : List Itb) (x : Itb) (xs : List Itb) → drop (suc (length pre)) (pre ++ x ∷ xs) ≡ xs
 behind [] x xs = refl
 behind (y ∷ pre) x xs = behind pre x xs
 
 -- a rule at a template acts on it, between those before and those behind
-pub apply-at : (r : Rule) (σ : Mach) (m : List Value) (pre : List Template) (x : Template) (xs : List Template) → σ .held ≡ pre ++ x ∷ xs
+pub apply-at : (r : Rule) (σ : Mach) (m : List Value) (pre : List Itb) (x : Itb) (xs : List Itb) → σ .held ≡ pre ++ x ∷ xs
     → apply r (length pre) σ m ≡ rule r σ m pre (x .address) xs (x .work)
 unfolding apply
 apply-at r σ m pre x xs e =
     let there : length pre < length (pre ++ x ∷ xs) = rw length-append (omega arith) in
-    rw (e, lt-ltb (length pre) (length (pre ++ x ∷ xs)) there, take-append-seam pre (x ∷ xs), getD-append-seam pre x xs blank, behind pre x xs) refl
+    rw (e, lt-ltb (length pre) (length (pre ++ x ∷ xs)) there, take-append-seam pre (x ∷ xs), getD-append-seam pre x xs nothing, behind pre x xs) refl
 
 -- P of every rule at every place: from its cases at every template of the list
-pub apply-cases : (P : List Template → Step → Type 0) (r : Rule) (place : ℕ) (σ : Mach) (m : List Value) → P (σ .held) (refused noTemplate)
-    → ((pre : List Template) (a : InstrAddr) (post : List Template) → Cases σ m pre a post (λ w s. P (pre ++ template a w ∷ post) s))
+pub apply-cases : (P : List Itb → Step → Type 0) (r : Rule) (place : ℕ) (σ : Mach) (m : List Value) → P (σ .held) (refused noTemplate)
+    → ((pre : List Itb) (a : InstrAddr) (post : List Itb) → Cases σ m pre a post (λ w s. P (pre ++ ITB a w ∷ post) s))
     → P (σ .held) (apply r place σ m)
 unfolding apply
 apply-cases P r place σ m absent k =
     let ts = σ .held in
-    let x = getD ts place blank in
+    let x = getD ts place nothing in
     let pre = take place ts in
     let post = drop (suc place) ts in
     by-test (P ts) (ltb place (length ts))
     (λ h.
-    subst (λ (l : List Template). P l (rule r σ m pre (x .address) post (x .work)))
-    (sym (split-at ts place blank (ltb-true place (length ts) h)))
-    (rule-cases σ m pre (x .address) post (λ w s. P (pre ++ template (x .address) w ∷ post) s) (k pre (x .address) post) r (x .work)))
+    subst (λ (l : List Itb). P l (rule r σ m pre (x .address) post (x .work)))
+    (sym (split-at ts place nothing (ltb-true place (length ts) h)))
+    (rule-cases σ m pre (x .address) post (λ w s. P (pre ++ ITB (x .address) w ∷ post) s) (k pre (x .address) post) r (x .work)))
     (λ _. absent)

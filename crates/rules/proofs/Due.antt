@@ -13,10 +13,9 @@ use Rattle.templates.specs.declared.Operand.{Operand}
 use Rattle.templates.specs.declared.Operand.the-variants.{Known, Waits}
 use Rattle.templates.specs.declared.Work.{Work}
 use Rattle.templates.specs.declared.Work.the-variants.{Done, Op, Jz, Load, Store}
-use Rattle.templates.specs.declared.Template.{Template}
-use Rattle.templates.specs.Templates.{anyHolds, anyReg}
+use Rattle.templates.specs.Templates.{anyReg}
+use Rattle.templates.specs.Machine.{Itb, anyHolds, Mach}
 use Rattle.isa.specs.declared.InstrAddr.{InstrAddr}
-use Rattle.templates.specs.Layout.{Mach}
 use Rattle.rules.specs.declared.Rule.{Rule}
 use Rattle.rules.specs.declared.Rule.the-variants as Rule
 use Rattle.rules.specs.Rules.{Step, accepted, refused, tried, known, goTo, rule}
@@ -27,7 +26,7 @@ alone : (t : Step) (n : ℕ) (other : Step) → first (first t (refused n)) othe
 alone (accepted σ m) n other = refl
 alone (refused k) n other = refl
 
-module _ (σ : Mach) (m : List Value) (pre : List Template) (a : InstrAddr) (post : List Template) where
+module _ (σ : Mach) (m : List Value) (pre : List Itb) (a : InstrAddr) (post : List Itb) where
   -- the first of the rules that is accepted at a template with work w
   abbrev pub firstAt : Work → List Rule → Step
   firstAt w [] = refused noTemplate

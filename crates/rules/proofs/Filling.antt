@@ -9,9 +9,9 @@ use Rattle.templates.specs.declared.Operand.{Operand}
 use Rattle.templates.specs.declared.Operand.the-variants.{Known, Waits}
 use Rattle.templates.specs.declared.Work.{Work}
 use Rattle.templates.specs.declared.Work.the-variants.{Done, Op, Jz, Load, Store}
-use Rattle.templates.specs.declared.Template.{Template}
 use Rattle.templates.specs.declared.Register.{Register}
-use Rattle.templates.specs.Templates.{sameTag, waits, holds, fill, fillWork, fillAll, fillRegs, anyHolds, anyReg}
+use Rattle.templates.specs.Templates.{sameTag, waits, holds, fill, fillWork, fillRegs, anyReg}
+use Rattle.templates.specs.Machine.{Itb, fillAll, anyHolds}
 use Rattle.sound.specs.Sound.{Produced, after, afterAll, isJz, anyJz, isEmpty, endsInJz}
 use Rattle.sound.proofs.Basics.{by-test}
 use Rattle.sound.proofs.Soundness.{Ready, WorkOk, TemplatesOk, Alone, RegistersOk}
@@ -54,11 +54,11 @@ module _ (t : Tag) (v : Value) where
   work-gone (Load u x) = fill-gone x
   work-gone (Store x y) = rw (fill-gone x, fill-gone y)
 
-  pub templates-under : (xs : List Template) (s : Tag) → Under (anyHolds s (fillAll t v xs)) (anyHolds s xs)
+  pub templates-under : (xs : List Itb) (s : Tag) → Under (anyHolds s (fillAll t v xs)) (anyHolds s xs)
   templates-under [] s = λ e. e
   templates-under (x ∷ xs) s = or-under _ _ _ _ (work-under s (x .work)) (templates-under xs s)
 
-  pub templates-gone : (xs : List Template) → anyHolds t (fillAll t v xs) ≡ false
+  pub templates-gone : (xs : List Itb) → anyHolds t (fillAll t v xs) ≡ false
   templates-gone [] = refl
   templates-gone (x ∷ xs) = rw (work-gone (x .work), templates-gone xs)
 
@@ -97,12 +97,12 @@ module _ (t : Tag) (v : Value) where
   jz-fill (Load s x) = refl
   jz-fill (Store x y) = refl
 
-  pub templates-fill : (k : ℕ) (made : Produced) (xs : List Template) → TemplatesOk k made xs → TemplatesOk k made (fillAll t v xs)
+  pub templates-fill : (k : ℕ) (made : Produced) (xs : List Itb) → TemplatesOk k made xs → TemplatesOk k made (fillAll t v xs)
   templates-fill k made [] h = tt
   templates-fill k made (x ∷ xs) h =
       (h .0, work-fill made (x .work) (h .1), rw (after-fill (x .work) made) (templates-fill k (after (x .work) made) xs (h .2)))
 
-  pub produced-fill : (xs : List Template) (made : Produced) → afterAll (fillAll t v xs) made ≡ afterAll xs made
+  pub produced-fill : (xs : List Itb) (made : Produced) → afterAll (fillAll t v xs) made ≡ afterAll xs made
   produced-fill [] made = refl
   produced-fill (x ∷ xs) made = ap (afterAll (fillAll t v xs)) (after-fill (x .work) made) ∙ produced-fill xs (after (x .work) made)
 
@@ -116,14 +116,14 @@ module _ (t : Tag) (v : Value) where
           by-test (λ x. Alone x (fillRegs t v rf)) (sameTag s t) (λ _. tt)
           (λ _. not-under (anyReg s (fillRegs t v rf)) (anyReg s rf) (registers-under rf s) g)
 
-  empty-fill : (xs : List Template) → isEmpty (fillAll t v xs) ≡ isEmpty xs
+  empty-fill : (xs : List Itb) → isEmpty (fillAll t v xs) ≡ isEmpty xs
   empty-fill [] = refl
   empty-fill (x ∷ xs) = refl
 
-  pub any-jz-fill : (xs : List Template) → anyJz (fillAll t v xs) ≡ anyJz xs
+  pub any-jz-fill : (xs : List Itb) → anyJz (fillAll t v xs) ≡ anyJz xs
   any-jz-fill [] = refl
   any-jz-fill (x ∷ xs) = rw (jz-fill (x .work), any-jz-fill xs)
 
-  pub ends-fill : (xs : List Template) → endsInJz (fillAll t v xs) ≡ endsInJz xs
+  pub ends-fill : (xs : List Itb) → endsInJz (fillAll t v xs) ≡ endsInJz xs
   ends-fill [] = refl
   ends-fill (x ∷ xs) = rw (jz-fill (x .work), empty-fill xs, ends-fill xs)

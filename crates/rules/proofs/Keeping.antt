@@ -23,12 +23,11 @@ use Rattle.templates.specs.declared.Operand.{Operand}
 use Rattle.templates.specs.declared.Operand.the-variants.{Known, Waits}
 use Rattle.templates.specs.declared.Work.{Work}
 use Rattle.templates.specs.declared.Work.the-variants.{Done, Op, Jz, Load, Store}
-use Rattle.templates.specs.declared.Template.{Template}
 use Rattle.templates.specs.declared.Register.{Register}
 use Rattle.templates.specs.declared.Counter.{Counter}
 use Rattle.templates.specs.declared.Counter.the-variants.{At, Stall}
-use Rattle.templates.specs.Templates.{sameTag, template, register, waits, contents, put, anyMakes, anyReg, fillAll, fillTemplate}
-use Rattle.templates.specs.Layout.{Mach, mach, capacity}
+use Rattle.templates.specs.Templates.{sameTag, register, waits, contents, put, anyReg}
+use Rattle.templates.specs.Machine.{Itb, ITB, anyMakes, fillAll, fillItb, Mach, mach, room}
 use Rattle.sound.specs.Sound.{lastTag, Produced, also, after, afterAll, isJz, anyJz, endsInJz}
 use Rattle.sound.specs.Sound as Sound
 use Rattle.sound.proofs.Basics.{by-test, neither, tags-differ}
@@ -49,7 +48,7 @@ abbrev pub StaysSound : ℕ → Step → Type 0
 StaysSound k = OnStep (λ σ m. Sound k σ)
 
 -- what stands behind the front may change for what ends alike
-counter-kept : (c : Counter) (pre : List Template) (x : Template) (post ys : List Template) → anyJz ys ≡ anyJz (x ∷ post) → endsInJz ys ≡ endsInJz (x ∷ post)
+counter-kept : (c : Counter) (pre : List Itb) (x : Itb) (post ys : List Itb) → anyJz ys ≡ anyJz (x ∷ post) → endsInJz ys ≡ endsInJz (x ∷ post)
     → CounterOk c (pre ++ x ∷ post) → CounterOk c (pre ++ ys)
 counter-kept (At a) pre x post ys e f h =
     let n = neither (anyJz pre) (anyJz (x ∷ post)) (sym (any-jz-append pre (x ∷ post)) ∙ h) in
@@ -58,40 +57,40 @@ counter-kept Stall pre x post ys e f h = let n = ends-parts x post pre h in ends
 
 -- ---- the rules but issue
 
-module _ (k : ℕ) (σ : Mach) (m : List Value) (pre : List Template) (a : InstrAddr) (post : List Template) where
+module _ (k : ℕ) (σ : Mach) (m : List Value) (pre : List Itb) (a : InstrAddr) (post : List Itb) where
   -- the tags made before the template
   abbrev before : Produced
   before = afterAll pre Sound.none
 
   abbrev Was : Work → Type 0
-  Was w = Sound k (holding σ (pre ++ template a w ∷ post))
+  Was w = Sound k (holding σ (pre ++ ITB a w ∷ post))
 
-  was-templates : (w : Work) → Was w → TemplatesOk k before (template a w ∷ post)
-  was-templates w s = templates-right k Sound.none pre (template a w ∷ post) (s .templates)
+  was-templates : (w : Work) → Was w → TemplatesOk k before (ITB a w ∷ post)
+  was-templates w s = templates-right k Sound.none pre (ITB a w ∷ post) (s .templates)
 
   was-registers : (w : Work) → Was w → RegistersOk (afterAll post (after w before)) (σ .registers)
-  was-registers w s = subst (λ (d : Produced). RegistersOk d (σ .registers)) (produced-append Sound.none pre (template a w ∷ post)) (s .registers)
+  was-registers w s = subst (λ (d : Produced). RegistersOk d (σ .registers)) (produced-append Sound.none pre (ITB a w ∷ post)) (s .registers)
 
   -- with other templates from there on, other registers and another counter
-  anew : (w : Work) → Was w → (c : Counter) (rf : List Register) (ys : List Template) → length ys ≤ suc (length post) → TemplatesOk k before ys
+  anew : (w : Work) → Was w → (c : Counter) (rf : List Register) (ys : List Itb) → length ys ≤ suc (length post) → TemplatesOk k before ys
       → RegistersOk (afterAll ys before) rf → CounterOk c (pre ++ ys) → Sound k (mach c rf (pre ++ ys))
   anew w s c rf ys l t r e =
       record {
-        few = omega (arith, length-append pre ys, length-append pre (template a w ∷ post), s .few);
-        templates = templates-append k Sound.none pre ys (templates-left k Sound.none pre (template a w ∷ post) (s .templates)) t;
+        few = omega (arith, length-append pre ys, length-append pre (ITB a w ∷ post), s .few);
+        templates = templates-append k Sound.none pre ys (templates-left k Sound.none pre (ITB a w ∷ post) (s .templates)) t;
         registers = subst (λ (d : Produced). RegistersOk d rf) (sym (produced-append Sound.none pre ys)) r;
         counter = e;
       }
 
   -- an Op or a Load becomes a value
   becomes-sound : (w : Work) (t : Tag) (v : Value) → isJz w ≡ false → after w before ≡ also t before → (WorkOk before w → New before t) → Was w
-      → Sound k (holding σ (pre ++ template a (Done t v) ∷ post))
+      → Sound k (holding σ (pre ++ ITB a (Done t v) ∷ post))
   becomes-sound w t v j e new s =
       let u = was-templates w s in
-      anew w s (σ .counter) (σ .registers) (template a (Done t v) ∷ post) (omega arith)
+      anew w s (σ .counter) (σ .registers) (ITB a (Done t v) ∷ post) (omega arith)
       (u .0, new (u .1), subst (λ (d : Produced). TemplatesOk k d post) e (u .2))
       (subst (λ (d : Produced). RegistersOk (afterAll post d) (σ .registers)) e (was-registers w s))
-      (counter-kept (σ .counter) pre (template a w) post (template a (Done t v) ∷ post) (rw j) (rw j) (s .counter))
+      (counter-kept (σ .counter) pre (ITB a w) post (ITB a (Done t v) ∷ post) (rw j) (rw j) (s .counter))
 
   -- a template that makes no tag goes
   goes-sound : (w : Work) (c : Counter) → after w before ≡ before → Was w → CounterOk c (pre ++ post) → Sound k (mach c (σ .registers) (pre ++ post))
@@ -107,10 +106,10 @@ module _ (k : ℕ) (σ : Mach) (m : List Value) (pre : List Template) (a : Instr
         operates = λ t n u v s. becomes-sound (Op t n (Known u) (Known v)) t (result n u v) refl refl (λ h. h .0) s;
         forwards = λ t v h s.
             let u = was-templates (Done t v) s in
-            anew (Done t v) s (σ .counter) (σ .registers) (template a (Done t v) ∷ fillAll t v post) (omega (arith, length-map post (fillTemplate t v)))
+            anew (Done t v) s (σ .counter) (σ .registers) (ITB a (Done t v) ∷ fillAll t v post) (omega (arith, length-map post (fillItb t v)))
             (u .0, u .1, templates-fill t v k (also t before) post (u .2))
             (rw (produced-fill t v post (also t before)) (was-registers (Done t v) s))
-            (counter-kept (σ .counter) pre (template a (Done t v)) post (template a (Done t v) ∷ fillAll t v post)
+            (counter-kept (σ .counter) pre (ITB a (Done t v)) post (ITB a (Done t v) ∷ fillAll t v post)
             (any-jz-fill t v post) (ends-fill t v post) (s .counter));
         commits = λ t v h s.
             record { few = s .few; templates = s .templates; registers = registers-fill t v _ (σ .registers) (s .registers); counter = s .counter };
@@ -119,13 +118,13 @@ module _ (k : ℕ) (σ : Mach) (m : List Value) (pre : List Template) (a : Instr
             (templates-without t k (also t before) before (without-itself t before) post h (was-templates (Done t v) s .2))
             (registers-without t (afterAll post (also t before)) (afterAll post before)
             (without-all t post (also t before) before (without-itself t before)) (σ .registers) f (was-registers (Done t v) s))
-            (counter-kept (σ .counter) pre (template a (Done t v)) post post refl refl (s .counter));
+            (counter-kept (σ .counter) pre (ITB a (Done t v)) post post refl refl (s .counter));
         loads = λ t x v e g s. becomes-sound (Load t (Known (Word x))) t v refl refl (λ h. h .0) s;
         stores = λ x v l g s.
             goes-sound (Store (Known (Word x)) (Known v)) (σ .counter) refl s
-            (counter-kept (σ .counter) pre (template a (Store (Known (Word x)) (Known v))) post post refl refl (s .counter));
+            (counter-kept (σ .counter) pre (ITB a (Store (Known (Word x)) (Known v))) post post refl refl (s .counter));
         jumps = λ u y ia b s.
-            let jz = template a (Jz (Known u) y) in
+            let jz = ITB a (Jz (Known u) y) in
             goes-sound (Jz (Known u) y) (At ia) refl s
             (no-jz-append pre post (straight jz post (σ .counter) pre (s .counter)) (ap anyJz (jz-last (σ .counter) pre a (Known u) y post (s .counter))));
       }
@@ -136,7 +135,7 @@ apply-keeps-sound k r place σ m s =
 
 -- ---- issue
 
-pub fresh-says : (t : Tag) (ts : List Template) → isFresh t ts ≡ true → (0 < t .0) × (t .0 ≤ lastTag) × (anyMakes t ts ≡ false)
+pub fresh-says : (t : Tag) (ts : List Itb) → isFresh t ts ≡ true → (0 < t .0) × (t .0 ≤ lastTag) × (anyMakes t ts ≡ false)
 fresh-says t ts e = new-said (λ s. anyMakes s ts) t .holds e
 
 ready-also : (made : Produced) (t : Tag) (x : Operand) → Ready made x → Ready (also t made) x
@@ -176,8 +175,8 @@ module _ (made : Produced) (t : Tag) where
       alone (Waits s) p g = unheld-set s rf n (tags-differ t s (λ q. true≢false (sym p ∙ ap made (sym q) ∙ e))) g
 
 module _ (k : ℕ) (t : Tag) (σ : Mach) (m : List Value) (s : Sound k σ) (plain : anyJz (σ .held) ≡ false) (ia : InstrAddr) (inside : ia .0 < k)
-    (room : length (σ .held) < capacity) where
-  abbrev ts : List Template
+    (space : length (σ .held) < room) where
+  abbrev ts : List Itb
   ts = σ .held
 
   abbrev rf : List Register
@@ -186,13 +185,13 @@ module _ (k : ℕ) (t : Tag) (σ : Mach) (m : List Value) (s : Sound k σ) (plai
   abbrev all : Produced
   all = afterAll ts Sound.none
 
-  added : (w : Work) (c : Counter) (rf′ : List Register) → WorkOk all w → RegistersOk (after w all) rf′ → CounterOk c (ts ++ template ia w ∷ [])
-      → Sound k (mach c rf′ (ts ++ template ia w ∷ []))
+  added : (w : Work) (c : Counter) (rf′ : List Register) → WorkOk all w → RegistersOk (after w all) rf′ → CounterOk c (ts ++ ITB ia w ∷ [])
+      → Sound k (mach c rf′ (ts ++ ITB ia w ∷ []))
   added w c rf′ h r e =
       record {
-        few = omega (arith, length-append ts (template ia w ∷ []));
-        templates = templates-append k Sound.none ts (template ia w ∷ []) (s .templates) (inside, h, tt);
-        registers = subst (λ (d : Produced). RegistersOk d rf′) (sym (produced-append Sound.none ts (template ia w ∷ []))) r;
+        few = omega (arith, length-append ts (ITB ia w ∷ []));
+        templates = templates-append k Sound.none ts (ITB ia w ∷ []) (s .templates) (inside, h, tt);
+        registers = subst (λ (d : Produced). RegistersOk d rf′) (sym (produced-append Sound.none ts (ITB ia w ∷ []))) r;
         counter = e;
       }
 
@@ -203,11 +202,11 @@ module _ (k : ℕ) (t : Tag) (σ : Mach) (m : List Value) (s : Sound k σ) (plai
   ready r = ready-at all rf r (s .registers)
 
   writes : (r : Reg) (w : Work) → isJz w ≡ false → after w all ≡ also t all → (New all t → WorkOk all w) → isFresh t ts ≡ true
-      → Sound k (mach (At (next ia)) (put rf r (Waits t)) (ts ++ template ia w ∷ []))
+      → Sound k (mach (At (next ia)) (put rf r (Waits t)) (ts ++ ITB ia w ∷ []))
   writes r w j e ok f =
       let new = fresh-new f in
       added w (At (next ia)) (put rf r (Waits t)) (ok new) (rw e (registers-set all t rf (r .0) (new .2) (s .registers)))
-      (no-jz-append ts (template ia w ∷ []) plain (rw j))
+      (no-jz-append ts (ITB ia w ∷ []) plain (rw j))
 
   issued-sound : (i : Instr) → isFormed i ≡ true → tagOk ts t i ≡ true → Sound k (issued t σ m ia i)
   issued-sound (Instr.Loadc r v) f g = writes r (Done t (Word v)) refl refl (λ n. n) g
@@ -226,10 +225,10 @@ module _ (prog : List Instr) (formed : AllFormed prog) (σ : Mach) (m : List Val
       → StaysSound (length prog) (tried (issueAt t σ m ia) (present o))
   issue-at t ia plain none e = tt
   issue-at t ia plain (some i) e =
-      by-test (StaysSound (length prog)) (leb capacity (length (σ .held))) (λ _. tt)
-      (λ room.
+      by-test (StaysSound (length prog)) (leb room (length (σ .held))) (λ _. tt)
+      (λ space.
       by-test (StaysSound (length prog)) (tagOk (σ .held) t i)
-      (issued-sound (length prog) t σ m s plain ia (found-inside prog (ia .0) e) (leb-false capacity (length (σ .held)) room) i (found-formed prog (ia .0) formed e))
+      (issued-sound (length prog) t σ m s plain ia (found-inside prog (ia .0) e) (leb-false room (length (σ .held)) space) i (found-formed prog (ia .0) formed e))
       (λ _. tt))
 
   issue-from : (t : Tag) (c : Counter) → CounterOk c (σ .held) → StaysSound (length prog) (issueFrom t σ m prog c)

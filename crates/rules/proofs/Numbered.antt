@@ -13,7 +13,7 @@ use Rattle.isa.specs.declared.Instr.{Instr}
 use Rattle.isa.specs.Program.{present}
 use Rattle.templates.specs.declared.Counter.{Counter}
 use Rattle.templates.specs.declared.Counter.the-variants.{At, Stall}
-use Rattle.templates.specs.Layout.{Mach, capacity}
+use Rattle.templates.specs.Machine.{Mach, room}
 use Rattle.sound.proofs.Basics.{by-test}
 use Rattle.rules.specs.declared.Rule.{Rule}
 use Rattle.rules.specs.declared.Command.{Command}
@@ -45,7 +45,7 @@ module _ (prog : List Instr) (σ : Mach) (m : List Value) where
   issue-at : (t : Tag) (ia : InstrAddr) (o : Option Instr) → Numbered (tried (issueAt t σ m ia) (present o))
   issue-at t ia none = λ e. omega arith
   issue-at t ia (some i) =
-      by-test Numbered (leb capacity (length (σ .held))) (λ _ e. omega arith)
+      by-test Numbered (leb room (length (σ .held))) (λ _ e. omega arith)
       (λ _. by-test Numbered (tagOk (σ .held) t i) (λ _. tt) (λ _ e. omega arith))
 
   issue-from : (t : Tag) (c : Counter) → Numbered (issueFrom t σ m prog c)

@@ -7,7 +7,7 @@ use mathlib.Core.List.{List, [], _∷_}
 use lib.ListN.{length}
 use borrow.Author.Tests.{le-ltb}
 use Rattle.value.specs.declared.Value.{Value}
-use Rattle.templates.specs.Layout.{Mach}
+use Rattle.templates.specs.Machine.{Mach}
 use Rattle.rules.specs.declared.Rule.{Rule}
 use Rattle.rules.specs.declared.Rule.the-variants.{Operate, Forward, Commit, Retire, Load, Store, Jump, NoJump}
 use Rattle.rules.specs.declared.Command.the-variants.{Apply}

@@ -9,8 +9,8 @@ use Rattle.templates.specs.declared.Operand.{Operand}
 use Rattle.templates.specs.declared.Operand.the-variants.{Known, Waits}
 use Rattle.templates.specs.declared.Work.{Work}
 use Rattle.templates.specs.declared.Work.the-variants.{Done, Op, Jz, Load, Store}
-use Rattle.templates.specs.declared.Template.{Template}
-use Rattle.templates.specs.Templates.{isMemory, anyMemory}
+use Rattle.templates.specs.Templates.{isMemory}
+use Rattle.templates.specs.Machine.{Itb, anyMemory}
 use Rattle.sound.proofs.Basics.{neither}
 
 -- an address that is a word, inside memory and another than x
@@ -35,13 +35,13 @@ LetsStore x size (Jz u v) = Unit
 LetsStore x size (Load t u) = Away x size u
 LetsStore x size (Store u v) = Away x size u
 
-abbrev pub Each : (Work → Type 0) → List Template → Type 0
+abbrev pub Each : (Work → Type 0) → List Itb → Type 0
 Each P [] = Unit
 Each P (x ∷ xs) = P (x .work) × Each P xs
 
 -- ---- where no access is earlier, none hinders
 
-each : (P : Work → Type 0) → ((w : Work) → isMemory w ≡ false → P w) → (xs : List Template) → anyMemory xs ≡ false → Each P xs
+each : (P : Work → Type 0) → ((w : Work) → isMemory w ≡ false → P w) → (xs : List Itb) → anyMemory xs ≡ false → Each P xs
 each P f [] h = tt
 each P f (y ∷ xs) h = let n = neither (isMemory (y .work)) (anyMemory xs) h in (f (y .work) (n .0), each P f xs (n .1))
 
@@ -61,16 +61,16 @@ module _ (x size : ℕ) where
   lets-store (Store u v) h = absurd (true≢false h)
 
   -- what the order of memory says of the templates ahead of a Load, or of a Store: edition one lets none be an access
-  pub record MayLoad (pre : List Template) : Type 0 where
+  pub record MayLoad (pre : List Itb) : Type 0 where
     pub lets : Each (LetsLoad x size) pre
     pub first : anyMemory pre ≡ false
 
-  pub record MayStore (pre : List Template) : Type 0 where
+  pub record MayStore (pre : List Itb) : Type 0 where
     pub lets : Each (LetsStore x size) pre
     pub first : anyMemory pre ≡ false
 
-  pub may-load : (pre : List Template) → anyMemory pre ≡ false → MayLoad pre
+  pub may-load : (pre : List Itb) → anyMemory pre ≡ false → MayLoad pre
   may-load pre h = record { lets = each (LetsLoad x size) lets-load pre h; first = h }
 
-  pub may-store : (pre : List Template) → anyMemory pre ≡ false → MayStore pre
+  pub may-store : (pre : List Itb) → anyMemory pre ≡ false → MayStore pre
   may-store pre h = record { lets = each (LetsStore x size) lets-store pre h; first = h }

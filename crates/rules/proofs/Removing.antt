@@ -8,9 +8,9 @@ use Rattle.templates.specs.declared.Operand.{Operand}
 use Rattle.templates.specs.declared.Operand.the-variants.{Known, Waits}
 use Rattle.templates.specs.declared.Work.{Work}
 use Rattle.templates.specs.declared.Work.the-variants.{Done, Op, Jz, Load, Store}
-use Rattle.templates.specs.declared.Template.{Template}
 use Rattle.templates.specs.declared.Register.{Register}
-use Rattle.templates.specs.Templates.{sameTag, waits, holds, anyHolds, anyReg}
+use Rattle.templates.specs.Templates.{sameTag, waits, holds, anyReg}
+use Rattle.templates.specs.Machine.{Itb, anyHolds}
 use Rattle.sound.specs.Sound.{Produced, also, after, afterAll}
 use Rattle.sound.proofs.Basics.{neither, tags-differ}
 use Rattle.sound.proofs.Soundness.{Ready, New, WorkOk, TemplatesOk, RegistersOk, also-itself, also-keeps}
@@ -34,7 +34,7 @@ module _ (t : Tag) where
   without-after (Load s x) made less l = without-also s made less l
   without-after (Store x y) made less l = l
 
-  pub without-all : (xs : List Template) (made less : Produced) → Without t made less → Without t (afterAll xs made) (afterAll xs less)
+  pub without-all : (xs : List Itb) (made less : Produced) → Without t made less → Without t (afterAll xs made) (afterAll xs less)
   without-all [] made less l = l
   without-all (x ∷ xs) made less l = without-all xs (after (x .work) made) (after (x .work) less) (without-after (x .work) made less l)
 
@@ -65,7 +65,7 @@ module _ (t : Tag) where
         let n = neither (waits t (r .holds)) (anyReg t rf) e in
         (ready-without (r .holds) (n .0) (h .0), h .1, registers-without rf (n .1) (h .2))
 
-  pub templates-without : (k : ℕ) (made less : Produced) → Without t made less → (xs : List Template) → anyHolds t xs ≡ false
+  pub templates-without : (k : ℕ) (made less : Produced) → Without t made less → (xs : List Itb) → anyHolds t xs ≡ false
       → TemplatesOk k made xs → TemplatesOk k less xs
   templates-without k made less l [] e h = tt
   templates-without k made less l (x ∷ xs) e h =

@@ -14,10 +14,9 @@ use Rattle.templates.specs.declared.Operand.{Operand}
 use Rattle.templates.specs.declared.Operand.the-variants.{Known, Waits}
 use Rattle.templates.specs.declared.Work.{Work}
 use Rattle.templates.specs.declared.Work.the-variants.{Done, Op, Jz, Load, Store}
-use Rattle.templates.specs.declared.Template.{Template}
 use Rattle.templates.specs.declared.Register.{Register}
-use Rattle.templates.specs.Templates.{anyHolds, anyReg}
-use Rattle.templates.specs.Layout.{Mach, capacity}
+use Rattle.templates.specs.Templates.{anyReg}
+use Rattle.templates.specs.Machine.{Itb, anyHolds, Mach, room}
 use Rattle.rules.specs.declared.Rule.{Rule}
 use Rattle.rules.specs.declared.Rule.the-variants as Rule
 use Rattle.rules.specs.Rules.{Step, accepted, refused, apply}
@@ -65,7 +64,7 @@ drainFrom (suc fuel) n σ m =
 
 -- four rules for each template are enough
 abbrev pub drain : Mach → List Value → Drained
-drain σ m = drainFrom (4 * capacity) 0 σ m
+drain σ m = drainFrom (4 * room) 0 σ m
 
 -- ---- what blocks it
 
@@ -81,23 +80,27 @@ abbrev pub refusal : Step → ℕ
 refusal (accepted σ m) = 0
 refusal (refused n) = n
 
--- why the oldest template doesn't run
-abbrev pub blockedBy : Mach → List Value → Template → ℕ
-blockedBy σ m x = refusal (apply (asks (x .work)) 0 σ m)
+-- the rule's refusal at a place, 0 if there is none
+abbrev pub refusalAt : Rule → ℕ → Mach → List Value → ℕ
+refusalAt r place σ m = refusal (apply r place σ m)
+
+-- why the template x at a place doesn't run
+abbrev pub blockedBy : ℕ → Mach → List Value → Itb → ℕ
+blockedBy place σ m x = refusalAt (asks (x .work)) place σ m
 
 -- the oldest of the templates that are left: its refusal, 0 if there is none, and its address
-abbrev pub blocking : Mach → List Value → List Template → ℕ
+abbrev pub blocking : Mach → List Value → List Itb → ℕ
 blocking σ m [] = 0
-blocking σ m (x ∷ xs) = blockedBy σ m x
+blocking σ m (x ∷ xs) = blockedBy 0 σ m x
 
-abbrev pub blockedAt : List Template → InstrAddr
+abbrev pub blockedAt : List Itb → InstrAddr
 blockedAt [] = record { 0 = 0 }
 blockedAt (x ∷ xs) = x .address
 
 -- ---- what the code's leaves answer
 
 -- the one rule that can be the lowest allowed at a template, by the registers and the templates behind it
-abbrev pub dueValue : List Register → List Template → Tag → Rule
+abbrev pub dueValue : List Register → List Itb → Tag → Rule
 dueValue rf post t = cond (anyHolds t post) Rule.Forward (cond (anyReg t rf) Rule.Commit Rule.Retire)
 
 abbrev pub dueJump : Operand → Rule
@@ -105,7 +108,7 @@ dueJump (Known Undefined) = Rule.Jump
 dueJump (Known (Word w)) = cond (eqb w 0) Rule.Jump Rule.NoJump
 dueJump (Waits t) = Rule.Jump
 
-abbrev pub due : List Register → List Template → Work → Rule
+abbrev pub due : List Register → List Itb → Work → Rule
 due rf post (Done t v) = dueValue rf post t
 due rf post (Op t n x y) = Rule.Operate
 due rf post (Jz x y) = dueJump x
@@ -113,7 +116,7 @@ due rf post (Load t x) = Rule.Load
 due rf post (Store x y) = Rule.Store
 
 -- why a value template doesn't retire, by its tag, the registers and the templates behind it
-abbrev pub retireRefusal : Tag → List Register → List Template → ℕ
+abbrev pub retireRefusal : Tag → List Register → List Itb → ℕ
 retireRefusal t rf post = cond (anyReg t rf || anyHolds t post) stillHeld 0
 
 -- why a Store that nothing is ahead of doesn't go, by its address and its data

@@ -2,7 +2,7 @@
 use Prim.Native.Nat.{ℕ}
 use mathlib.Core.List.{List, [], _∷_}
 use Rattle.value.specs.declared.Value.{Value}
-use Rattle.templates.specs.Layout.{Mach}
+use Rattle.templates.specs.Machine.{Mach}
 use Rattle.rules.specs.declared.Rule.{Rule}
 use Rattle.rules.specs.Rules.{Step, accepted, refused, apply}
 

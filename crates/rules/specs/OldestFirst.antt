@@ -3,7 +3,7 @@ use mathlib.Core.Path.{_≡_}
 use Prim.Native.Nat.{ℕ, _<_}
 use mathlib.Core.List.{List}
 use Rattle.value.specs.declared.Value.{Value}
-use Rattle.templates.specs.Layout.{Mach}
+use Rattle.templates.specs.Machine.{Mach}
 use Rattle.rules.specs.declared.Rule.{Rule}
 use Rattle.rules.specs.declared.Rule.the-variants.{Operate, Forward, Commit, Retire, Load, Store, Jump, NoJump}
 use Rattle.rules.specs.Moves.{Move, move, Refused}

@@ -19,12 +19,11 @@ use Rattle.templates.specs.declared.Operand.{Operand}
 use Rattle.templates.specs.declared.Operand.the-variants.{Known, Waits}
 use Rattle.templates.specs.declared.Work.{Work}
 use Rattle.templates.specs.declared.Work.the-variants.{Done, Op, Jz, Load, Store}
-use Rattle.templates.specs.declared.Template.{Template}
 use Rattle.templates.specs.declared.Register.{Register}
 use Rattle.templates.specs.declared.Counter.{Counter}
 use Rattle.templates.specs.declared.Counter.the-variants.{At, Stall}
-use Rattle.templates.specs.Templates.{template, blank, anyMakes, anyHolds, anyMemory, anyReg, fillAll, fillRegs, contents, put}
-use Rattle.templates.specs.Layout.{Mach, mach, capacity}
+use Rattle.templates.specs.Templates.{anyReg, fillRegs, contents, put}
+use Rattle.templates.specs.Machine.{Itb, ITB, nothing, anyMakes, anyHolds, anyMemory, fillAll, Mach, with, room}
 use Rattle.sound.specs.Sound.{isNew}
 use Rattle.rules.specs.declared.Rule.{Rule}
 use Rattle.rules.specs.declared.Rule.the-variants as Rule
@@ -35,8 +34,8 @@ pub data Step : Type 0 where
   refused : ℕ → Step
 
 -- the machine with other templates
-abbrev pub holding : Mach → List Template → Mach
-holding σ ts = mach (σ .counter) (σ .registers) ts
+abbrev pub holding : Mach → List Itb → Mach
+holding σ xs = with σ (σ .counter) (σ .registers) xs
 
 -- ---- conditions, each with its number for no
 
@@ -91,15 +90,15 @@ onStore f (Load t x) = refused otherKind
 onStore f (Store x y) = f x y
 
 -- the Store is removed, and memory is the one written
-abbrev pub storing : Mach → List Template → List Template → Try (List Value) → Step
+abbrev pub storing : Mach → List Itb → List Itb → Try (List Value) → Step
 storing σ pre post w = tried (λ m′. accepted (holding σ (pre ++ post)) m′) w
 
 -- ---- the rules but issue: at the template of address a, with `pre` before it and `post` behind it
 
-module _ (σ : Mach) (m : List Value) (pre : List Template) (a : InstrAddr) (post : List Template) where
+module _ (σ : Mach) (m : List Value) (pre : List Itb) (a : InstrAddr) (post : List Itb) where
   -- the template becomes another
   abbrev pub becomes : Work → Step
-  becomes w = accepted (holding σ (pre ++ template a w ∷ post)) m
+  becomes w = accepted (holding σ (pre ++ ITB a w ∷ post)) m
 
   abbrev pub operate : Work → Step
   operate = onOp (λ t n x y. known (λ u. known (λ v. becomes (Done t (result n u v))) y) x)
@@ -110,7 +109,7 @@ module _ (σ : Mach) (m : List Value) (pre : List Template) (a : InstrAddr) (pos
       onValue
       (λ t v.
       cond (anyHolds t post)
-      (accepted (holding σ (pre ++ template a (Done t v) ∷ fillAll t v post)) m)
+      (accepted (holding σ (pre ++ ITB a (Done t v) ∷ fillAll t v post)) m)
       (refused notHeld))
 
   -- in the register that holds the tag
@@ -119,7 +118,7 @@ module _ (σ : Mach) (m : List Value) (pre : List Template) (a : InstrAddr) (pos
       onValue
       (λ t v.
       cond (anyReg t (σ .registers))
-      (accepted (mach (σ .counter) (fillRegs t v (σ .registers)) (pre ++ template a (Done t v) ∷ post)) m)
+      (accepted (with σ (σ .counter) (fillRegs t v (σ .registers)) (pre ++ ITB a (Done t v) ∷ post)) m)
       (refused notHeld))
 
   abbrev pub retire : Work → Step
@@ -148,7 +147,7 @@ module _ (σ : Mach) (m : List Value) (pre : List Template) (a : InstrAddr) (pos
 
   -- the Jz is removed, and the counter is set
   abbrev pub goTo : InstrAddr → Step
-  goTo ia = accepted (mach (At ia) (σ .registers) (pre ++ post)) m
+  goTo ia = accepted (with σ (At ia) (σ .registers) (pre ++ post)) m
 
   abbrev pub jump : Work → Step
   jump = onJz (λ x y. known (λ u. condition (known (λ v. tried goTo (target v)) y) (refused otherWay) u) x)
@@ -157,7 +156,7 @@ module _ (σ : Mach) (m : List Value) (pre : List Template) (a : InstrAddr) (pos
   abbrev pub noJump : Work → Step
   noJump = onJz (λ x y. known (λ u. condition (refused otherWay) (goTo (next a)) u) x)
 
-abbrev pub rule : Rule → Mach → List Value → List Template → InstrAddr → List Template → Work → Step
+abbrev pub rule : Rule → Mach → List Value → List Itb → InstrAddr → List Itb → Work → Step
 rule Rule.Operate = operate
 rule Rule.Forward = forward
 rule Rule.Commit = commit
@@ -170,7 +169,7 @@ rule Rule.NoJump = noJump
 -- the rule at place k
 unfoldable pub apply : Rule → ℕ → Mach → List Value → Step
 apply r k σ m =
-    let x = getD (σ .held) k blank in
+    let x = getD (σ .held) k nothing in
     cond (ltb k (length (σ .held)))
     (rule r σ m (take k (σ .held)) (x .address) (drop (suc k) (σ .held)) (x .work))
     (refused noTemplate)
@@ -178,7 +177,7 @@ apply r k σ m =
 -- ---- issue: of the instruction at the counter, with a tag that the schedule names
 
 -- the tag lies in 1 to 64, and no template produces it
-abbrev pub isFresh : Tag → List Template → Bool
+abbrev pub isFresh : Tag → List Itb → Bool
 isFresh t ts = isNew (λ s. anyMakes s ts) t
 
 -- a writing instruction needs a fresh tag; Jz and Store need 0
@@ -190,7 +189,7 @@ tagSuits fresh t (Instr.Jz r1 r2) = eqb (t .0) 0
 tagSuits fresh t (Instr.Load r r1) = fresh
 tagSuits fresh t (Instr.Store r1 r2) = eqb (t .0) 0
 
-abbrev pub tagOk : List Template → Tag → Instr → Bool
+abbrev pub tagOk : List Itb → Tag → Instr → Bool
 tagOk ts t i = tagSuits (isFresh t ts) t i
 
 -- the new template's work: the operands' present contents
@@ -223,12 +222,12 @@ module _ (t : Tag) (σ : Mach) (m : List Value) where
   -- the machine with the instruction as its last template
   abbrev pub issued : InstrAddr → Instr → Mach
   issued ia i =
-      mach (counterAfter ia i) (renamed (σ .registers) t i)
-      (σ .held ++ template ia (workOf (σ .registers) ia t i) ∷ [])
+      with σ (counterAfter ia i) (renamed (σ .registers) t i)
+      (σ .held ++ ITB ia (workOf (σ .registers) ia t i) ∷ [])
 
   abbrev pub issueAt : InstrAddr → Instr → Step
   issueAt ia i =
-      cond (leb capacity (length (σ .held)))
+      cond (leb room (length (σ .held)))
       (refused full)
       (cond (tagOk (σ .held) t i) (accepted (issued ia i) m) (refused badTag))
 

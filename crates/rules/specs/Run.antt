@@ -5,7 +5,7 @@ use lib.ListN.{length, getD}
 use Rattle.records.specs.Records.{tabulate}
 use Rattle.value.specs.declared.Value.{Value}
 use Rattle.isa.specs.declared.Instr.{Instr}
-use Rattle.templates.specs.Layout.{Mach}
+use Rattle.templates.specs.Machine.{Mach}
 use Rattle.rules.specs.declared.Command.{Command}
 use Rattle.rules.specs.declared.Command.the-variants.{Malformed, Issue, Apply}
 use Rattle.rules.specs.Rules.{Step, accepted, refused}

@@ -6,7 +6,7 @@ use lib.Dec.{eqb}
 use Rattle.records.specs.Refusal.{badSchedule}
 use Rattle.value.specs.declared.Value.{Value}
 use Rattle.isa.specs.declared.Instr.{Instr}
-use Rattle.templates.specs.Layout.{Mach}
+use Rattle.templates.specs.Machine.{Mach}
 use Rattle.rules.specs.declared.Rule.{Rule}
 use Rattle.rules.specs.declared.Rule.the-variants as Rule
 use Rattle.rules.specs.declared.Command.{Command}

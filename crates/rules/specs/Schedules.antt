@@ -6,7 +6,7 @@ use mathlib.Core.List.{List, [], _∷_}
 use lib.ListN.{length, take}
 use Rattle.value.specs.declared.Value.{Value}
 use Rattle.isa.specs.declared.Instr.{Instr}
-use Rattle.templates.specs.Layout.{Mach}
+use Rattle.templates.specs.Machine.{Mach}
 use Rattle.rules.specs.declared.Command.{Command}
 use Rattle.rules.specs.Rules.{Step, accepted, refused}
 use Rattle.rules.specs.Schedule.{obey}

@@ -2,10 +2,9 @@
 use Prim.Native.Nat.{ℕ, zero, suc, _-_, _≤_, _<_}
 use mathlib.Core.Path.{_≡_, refl, sym, ap, ap₂, _∙_}
 use mathlib.Core.Bool.{Bool, true, false, _&&_, not, and-eq-true-iff, false≢true}
-use mathlib.Core.List.{List, [], _∷_, _++_}
+use mathlib.Core.List.{List, [], _∷_}
 use lib.Dec.{ltb, leb}
-use lib.ListN.{length, take, drop, replicate, length-drop, take-append-drop}
-use lib.Seq.{length-take-le, drop-append-seam}
+use lib.ListN.{length, drop, replicate, length-drop}
 use borrow.Author.Tests.{eqb-true, ltb-true, lt-ltb, leb-true, le-leb, not-true}
 use Rattle.value.specs.declared.Value.the-variants.{Undefined, Word}
 use Rattle.isa.specs.declared.Tag.{Tag}
@@ -19,10 +18,11 @@ use Rattle.templates.specs.declared.Register.{Register}
 use Rattle.templates.specs.declared.Counter.{Counter}
 use Rattle.templates.specs.declared.Counter.the-variants.{At, Stall}
 use Rattle.templates.specs.declared.State.{State}
-use Rattle.templates.specs.Templates.{blank, anyReg}
-use Rattle.templates.specs.Layout.{Mach, capacity, lay, machOf, stateOf, Laid}
-use Rattle.templates.proofs.Places.{machOf-stateOf}
-use Rattle.sound.specs.Sound.{lastTag, Produced, none, after, afterAll, isNew, isReady, workOk, templatesOk, isAlone, registersOk, anyJz, endsInJz, counterOk, blankWork, isBlank, allBlank, soundMach, isSound}
+use Rattle.templates.specs.Templates.{anyReg}
+use Rattle.templates.specs.Machine.{Itb, Mach, room}
+use Rattle.templates.specs.Layout.{places, blank, lay, machOf, stateOf, Laid}
+use Rattle.templates.proofs.Places.{lay-back, machOf-stateOf, blanks-laid}
+use Rattle.sound.specs.Sound.{lastTag, Produced, none, after, afterAll, isNew, isReady, workOk, templateOk, templatesOk, isAlone, registersOk, anyJz, endsInJz, counterOk, blankWork, isBlank, allBlank, soundMach, isSound}
 use Rattle.sound.proofs.Soundness.{Ready, New, WorkOk, TemplatesOk, Alone, RegistersOk, CounterOk, Sound}
 
 -- the test t says when P holds
@@ -79,9 +79,14 @@ work-said made (Jz x y) = both-say (ready-said made x) (ready-said made y)
 work-said made (Load t x) = both-say (new-said made t) (ready-said made x)
 work-said made (Store x y) = both-say (ready-said made x) (ready-said made y)
 
-templates-said : (k : ℕ) (made : Produced) (xs : List Template) → Decides (templatesOk k made xs) (TemplatesOk k made xs)
+template-said : (k : ℕ) (made : Produced) (x : Itb) → Decides (templateOk k made x) ((x .address .0 < k) × WorkOk made (x .work))
+template-said k made x = both-say (below (x .address .0) k) (work-said made (x .work))
+
+templates-said : (k : ℕ) (made : Produced) (xs : List Itb) → Decides (templatesOk k made xs) (TemplatesOk k made xs)
 templates-said k made [] = always
-templates-said k made (x ∷ xs) = three-say (below (x .address .0) k) (work-said made (x .work)) (templates-said k (after (x .work) made) xs)
+templates-said k made (x ∷ xs) =
+    let t = both-say (template-said k made x) (templates-said k (after (x .work) made) xs) in
+    record { holds = λ e. let h = t .holds e in (h .0 .0, h .0 .1, h .1); says = λ h. t .says ((h .0, h .1), h .2) }
 
 alone-said : (x : Operand) (rf : List Register) → Decides (isAlone x rf) (Alone x rf)
 alone-said (Known v) rf = always
@@ -91,7 +96,7 @@ registers-said : (made : Produced) (rf : List Register) → Decides (registersOk
 registers-said made [] = always
 registers-said made (r ∷ rf) = three-say (ready-said made (r .holds)) (alone-said (r .holds) rf) (registers-said made rf)
 
-counter-said : (c : Counter) (xs : List Template) → Decides (counterOk c xs) (CounterOk c xs)
+counter-said : (c : Counter) (xs : List Itb) → Decides (counterOk c xs) (CounterOk c xs)
 counter-said (At a) xs = is-not (anyJz xs)
 counter-said Stall xs = is (endsInJz xs)
 
@@ -99,7 +104,7 @@ pub sound-said : (k : ℕ) (σ : Mach) → Decides (soundMach k σ) (Sound k σ)
 unfolding soundMach
 sound-said k σ =
     let t =
-    both-say (both-say (at-most (length (σ .held)) capacity) (templates-said k none (σ .held)))
+    both-say (both-say (at-most (length (σ .held)) room) (templates-said k none (σ .held)))
     (both-say (registers-said (afterAll (σ .held) none) (σ .registers)) (counter-said (σ .counter) (σ .held))) in
     record {
       holds = λ e. let h = t .holds e in record { few = h .0 .0; templates = h .0 .1; registers = h .1 .0; counter = h .1 .1 };
@@ -131,12 +136,12 @@ blanks : (n : ℕ) → allBlank (replicate n blank) ≡ true
 blanks zero = refl
 blanks (suc n) = blanks n
 
-module _ (k : ℕ) (s : State) (long : length (s .templates) ≡ capacity) (e : isSound k s ≡ true) where
-  parts : (leb (s .count) capacity ≡ true) × (allBlank (drop (s .count) (s .templates)) ≡ true) × (soundMach k (machOf s) ≡ true)
+module _ (k : ℕ) (s : State) (long : length (s .templates) ≡ places) (e : isSound k s ≡ true) where
+  parts : (leb (s .count) room ≡ true) × (allBlank (drop (s .count) (s .templates)) ≡ true) × (soundMach k (machOf s) ≡ true)
   unfolding isSound
   parts =
       let rest = allBlank (drop (s .count) (s .templates)) in
-      let h = and-eq-true-iff (leb (s .count) capacity) (rest && soundMach k (machOf s)) .0 e in
+      let h = and-eq-true-iff (leb (s .count) room) (rest && soundMach k (machOf s)) .0 e in
       let g = and-eq-true-iff rest (soundMach k (machOf s)) .0 (h .1) in
       (h .0, g .0, g .1)
 
@@ -144,16 +149,8 @@ module _ (k : ℕ) (s : State) (long : length (s .templates) ≡ capacity) (e : 
   sound-laid =
       let n = s .count in
       let ts = s .templates in
-      let within : n ≤ capacity = leb-true n capacity (parts .0) in
-      let front : length (take n ts) ≡ n = length-take-le n ts (rw long within) in
-      let back : length (drop n ts) ≡ capacity - length (take n ts) = length-drop n ts ∙ rw (long, front) refl in
-      record {
-        within = within;
-        whole =
-            sym (take-append-drop n ts)
-            ∙ ap (λ (r : List Template). take n ts ++ r)
-            (all-blank (drop n ts) (parts .1) ∙ ap (λ (i : ℕ). replicate i blank) back);
-      }
+      let back : length (drop n ts) ≡ places - n = length-drop n ts ∙ ap (λ (k : ℕ). k - n) long in
+      blanks-laid s long (leb-true n room (parts .0)) (all-blank (drop n ts) (parts .1) ∙ ap (λ (i : ℕ). replicate i blank) back)
 
   pub sound-machine : Sound k (machOf s)
   sound-machine = sound-said k (machOf s) .holds (parts .2)
@@ -161,7 +158,6 @@ module _ (k : ℕ) (s : State) (long : length (s .templates) ≡ capacity) (e : 
 pub sound-state : (k : ℕ) (σ : Mach) → Sound k σ → isSound k (stateOf σ) ≡ true
 unfolding isSound
 sound-state k σ s =
-    let n = capacity - length (σ .held) in
-    let behind : allBlank (drop (length (σ .held)) (lay (σ .held))) ≡ true = ap allBlank (drop-append-seam (σ .held) (replicate n blank)) ∙ blanks n in
+    let behind : allBlank (drop (length (σ .held)) (lay (σ .held))) ≡ true = ap allBlank (lay-back (σ .held)) ∙ blanks (places - length (σ .held)) in
     let machine : soundMach k (machOf (stateOf σ)) ≡ true = ap (soundMach k) (machOf-stateOf σ) ∙ sound-said k σ .says s in
-    rw (le-leb (length (σ .held)) capacity (s .few), behind, machine) refl
+    rw (le-leb (length (σ .held)) room (s .few), behind, machine) refl

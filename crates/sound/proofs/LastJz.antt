@@ -7,7 +7,7 @@ use mathlib.Core.Bool.{Bool, true, false, cond, not, _||_}
 use mathlib.Core.List.{List, [], _∷_}
 use lib.Dec.{eqb, eqb·zero-suc, eqb·suc-suc}
 use lib.ListN.{length}
-use Rattle.templates.specs.declared.Template.{Template}
+use Rattle.templates.specs.Machine.{Itb}
 use Rattle.sound.specs.Sound.{isJz, anyJz, isEmpty, endsInJz}
 use Rattle.sound.specs.Search.{firstJz}
 
@@ -27,25 +27,25 @@ last-step false c d a n e f = eqb·suc-suc (suc a) n ∙ f
 
 -- ---- all templates
 
-within : (xs : List Template) → firstJz xs ≤ length xs
+within : (xs : List Itb) → firstJz xs ≤ length xs
 within [] = omega arith
 within (x ∷ xs) = within-step (isJz (x .work)) (within xs)
 
-none-is : (xs : List Template) → eqb (firstJz xs) (length xs) ≡ not (anyJz xs)
+none-is : (xs : List Itb) → eqb (firstJz xs) (length xs) ≡ not (anyJz xs)
 none-is [] = refl
 none-is (x ∷ xs) = none-step (isJz (x .work)) (anyJz xs) (firstJz xs) (length xs) (none-is xs)
 
-empty : (xs : List Template) → eqb 0 (length xs) ≡ isEmpty xs
+empty : (xs : List Itb) → eqb 0 (length xs) ≡ isEmpty xs
 empty [] = refl
 empty (x ∷ xs) = eqb·zero-suc (length xs)
 
-last-is : (xs : List Template) → eqb (suc (firstJz xs)) (length xs) ≡ endsInJz xs
+last-is : (xs : List Itb) → eqb (suc (firstJz xs)) (length xs) ≡ endsInJz xs
 last-is [] = refl
 last-is (x ∷ xs) = last-step (isJz (x .work)) (isEmpty xs) (endsInJz xs) (firstJz xs) (length xs) (empty xs) (last-is xs)
 
 -- ---- by their number n
 
-module _ (xs : List Template) {n : ℕ} (long : length xs ≡ n) where
+module _ (xs : List Itb) {n : ℕ} (long : length xs ≡ n) where
   pub first-within : firstJz xs ≤ n
   first-within = rw (← long) (within xs)
 

@@ -4,7 +4,7 @@ use Prim.Native.Nat.{ℕ, suc}
 use mathlib.Core.Bool.{Bool, true, false, cond}
 use mathlib.Core.List.{List, [], _∷_}
 use lib.ListN.{getD}
-use Rattle.templates.specs.declared.Template.{Template}
+use Rattle.templates.specs.Machine.{Itb}
 use Rattle.sound.specs.declared.Checked.{Checked}
 use Rattle.sound.specs.Sound.{Produced, none, afterAll, templatesOk, isJz}
 
@@ -13,11 +13,11 @@ abbrev pub told : List Bool → Produced
 told made = λ t. getD made (t .0) false
 
 -- whether the templates are in order, and if they are, the tags that they produce
-pub record Checks (k : ℕ) (xs : List Template) (r : Checked) : Type 0 where
+pub record Checks (k : ℕ) (xs : List Itb) (r : Checked) : Type 0 where
   pub verdict : r .ok ≡ templatesOk k none xs
   pub tags : r .ok ≡ true → told (r .made) ≡ afterAll xs none
 
 -- the place of the first Jz, or how many templates there are
-abbrev pub firstJz : List Template → ℕ
+abbrev pub firstJz : List Itb → ℕ
 firstJz [] = 0
 firstJz (x ∷ xs) = cond (isJz (x .work)) 0 (suc (firstJz xs))

@@ -17,7 +17,8 @@ use Rattle.templates.specs.declared.Counter.{Counter}
 use Rattle.templates.specs.declared.Counter.the-variants.{At, Stall}
 use Rattle.templates.specs.declared.State.{State}
 use Rattle.templates.specs.Templates.{sameTag, any, anyReg}
-use Rattle.templates.specs.Layout.{Mach, capacity, machOf}
+use Rattle.templates.specs.Machine.{Itb, Mach, room}
+use Rattle.templates.specs.Layout.{machOf}
 
 -- tags are 1 to 64
 abbrev pub lastTag : ℕ
@@ -41,7 +42,7 @@ after (Jz x y) made = made
 after (Load t x) made = also t made
 after (Store x y) made = made
 
-abbrev pub afterAll : List Template → Produced → Produced
+abbrev pub afterAll : List Itb → Produced → Produced
 afterAll [] made = made
 afterAll (x ∷ xs) made = afterAll xs (after (x .work) made)
 
@@ -65,9 +66,12 @@ workOk made (Load t x) = isNew made t && isReady made x
 workOk made (Store x y) = isReady made x && isReady made y
 
 -- each template's address is inside the program, which has k instructions
-abbrev pub templatesOk : ℕ → Produced → List Template → Bool
+abbrev pub templateOk : ℕ → Produced → Itb → Bool
+templateOk k made x = ltb (x .address .0) k && workOk made (x .work)
+
+abbrev pub templatesOk : ℕ → Produced → List Itb → Bool
 templatesOk k made [] = true
-templatesOk k made (x ∷ xs) = ltb (x .address .0) k && (workOk made (x .work) && templatesOk k (after (x .work) made) xs)
+templatesOk k made (x ∷ xs) = templateOk k made x && templatesOk k (after (x .work) made) xs
 
 -- ---- registers: each tag has a producer, and no two hold the same
 
@@ -88,18 +92,18 @@ isJz (Jz x y) = true
 isJz (Load t x) = false
 isJz (Store x y) = false
 
-abbrev pub anyJz : List Template → Bool
+abbrev pub anyJz : List Itb → Bool
 anyJz xs = any (λ x. isJz (x .work)) xs
 
-abbrev pub isEmpty : List Template → Bool
+abbrev pub isEmpty : List Itb → Bool
 isEmpty [] = true
 isEmpty (x ∷ xs) = false
 
-abbrev pub endsInJz : List Template → Bool
+abbrev pub endsInJz : List Itb → Bool
 endsInJz [] = false
 endsInJz (x ∷ xs) = cond (isJz (x .work)) (isEmpty xs) (endsInJz xs)
 
-abbrev pub counterOk : Counter → List Template → Bool
+abbrev pub counterOk : Counter → List Itb → Bool
 counterOk (At a) xs = not (anyJz xs)
 counterOk Stall xs = endsInJz xs
 
@@ -124,9 +128,9 @@ allBlank (x ∷ xs) = isBlank x && allBlank xs
 
 unfoldable pub soundMach : ℕ → Mach → Bool
 soundMach k σ =
-    (leb (length (σ .held)) capacity && templatesOk k none (σ .held))
+    (leb (length (σ .held)) room && templatesOk k none (σ .held))
     && (registersOk (afterAll (σ .held) none) (σ .registers) && counterOk (σ .counter) (σ .held))
 
 -- of a program of k instructions
 unfoldable pub isSound : ℕ → State → Bool
-isSound k s = leb (s .count) capacity && (allBlank (drop (s .count) (s .templates)) && soundMach k (machOf s))
+isSound k s = leb (s .count) room && (allBlank (drop (s .count) (s .templates)) && soundMach k (machOf s))

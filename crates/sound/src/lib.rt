@@ -4,37 +4,44 @@ ghost use Prim.Native.Nat.{_≤_};
 ghost use mathlib.Core.Bool.{true};
 ghost use lib.ListN.{take, drop};
 ghost use Rattle.templates.specs.Templates.{anyReg};
-ghost use Rattle.sound.specs.Sound.{also, after, isNew, isReady, workOk, isAlone, registersOk, isJz, counterOk, blankWork, allBlank, isSound};
+ghost use Rattle.templates.specs.Layout.{places, itb, itbs};
+ghost use Rattle.sound.specs.Sound.{lastTag, also, after, isNew, isReady, workOk, templateOk, isAlone, registersOk, isJz, counterOk, blankWork, allBlank, isSound};
 ghost use Rattle.sound.specs.Search.{told, Checks, firstJz};
+use isa::LAST_OPERATION;
+use isa::REGISTERS;
 use isa::Tag;
 use templates::Counter;
+use templates::LAST_TAG;
 use templates::Operand;
+use templates::PLACES;
+use templates::ROOM;
 use templates::Register;
 use templates::State;
+use templates::TAGS;
 use templates::Template;
 use templates::Work;
 use value::Value;
 
-// What a walk of the templates found: whether they are in order, and which of the tags 0 to 64 have a producer if they are.
+// What a walk of the templates found: whether they are in order, and which of the tags have a producer if they are.
 struct Checked {
     ok: bool,
-    made: [bool; 65],
+    made: [bool; TAGS],
 }
 
 // ---- the tags that have a producer
 
-fn is_made(made: [bool; 65], t: Tag) -> bool
+fn is_made(made: [bool; TAGS], t: Tag) -> bool
     ensures { λ r. ⌜ r ≡ told made t ⌝ }
 {
     let i = t.0 as usize;
-    if i > 64 {
+    if i >= TAGS {
         return false;
     }
     made[i]
 }
 
-fn also(t: Tag, made: [bool; 65]) -> [bool; 65]
-    requires { ⌜ t .0 ≤ 64 ⌝ }
+fn also(t: Tag, made: [bool; TAGS]) -> [bool; TAGS]
+    requires { ⌜ t .0 ≤ lastTag ⌝ }
     ensures { λ r. ⌜ told r ≡ also t (told made) ⌝ }
 {
     let mut out = made;
@@ -42,7 +49,7 @@ fn also(t: Tag, made: [bool; 65]) -> [bool; 65]
     out
 }
 
-fn after(w: Work, made: [bool; 65]) -> [bool; 65]
+fn after(w: Work, made: [bool; TAGS]) -> [bool; TAGS]
     requires { ⌜ workOk (told made) w ≡ true ⌝ }
     ensures { λ r. ⌜ told r ≡ after w (told made) ⌝ }
 {
@@ -57,14 +64,14 @@ fn after(w: Work, made: [bool; 65]) -> [bool; 65]
 
 // ---- templates
 
-fn is_new(made: [bool; 65], t: Tag) -> bool
+fn is_new(made: [bool; TAGS], t: Tag) -> bool
     ensures { λ r. ⌜ r ≡ isNew (told made) t ⌝ }
 {
     let fresh = !is_made(made, t);
-    (0 < t.0) & ((t.0 <= 64) & fresh)
+    (0 < t.0) & ((t.0 <= LAST_TAG) & fresh)
 }
 
-fn is_ready(made: [bool; 65], o: Operand) -> bool
+fn is_ready(made: [bool; TAGS], o: Operand) -> bool
     ensures { λ r. ⌜ r ≡ isReady (told made) o ⌝ }
 {
     match o {
@@ -73,40 +80,41 @@ fn is_ready(made: [bool; 65], o: Operand) -> bool
     }
 }
 
-fn work_ok(made: [bool; 65], w: Work) -> bool
+fn work_ok(made: [bool; TAGS], w: Work) -> bool
     ensures { λ r. ⌜ r ≡ workOk (told made) w ⌝ }
 {
     match w {
         Work::Done(t, _) => is_new(made, t),
         Work::Op(t, o, a, b) => is_new(made, t)
-            & (is_ready(made, a) & (is_ready(made, b) & (o <= 4))),
+            & (is_ready(made, a) & (is_ready(made, b) & (o <= LAST_OPERATION))),
         Work::Jz(a, b) => is_ready(made, a) & is_ready(made, b),
         Work::Load(t, a) => is_new(made, t) & is_ready(made, a),
         Work::Store(a, b) => is_ready(made, a) & is_ready(made, b),
     }
 }
 
-fn templates_ok(ts: [Template; 64], n: usize, instructions: u32) -> Checked
-    requires { ⌜ n ≤ 64 ⌝ }
-    ensures { λ r. ⌜ Checks instructions (take n ts) r ⌝ }
+fn template_ok(made: [bool; TAGS], x: Template, instructions: u32) -> bool
+    ensures { λ r. ⌜ r ≡ templateOk instructions (told made) (itb x) ⌝ }
 {
-    let mut made = [false; 65];
+    let w = x.work;
+    (x.address.0 < instructions) & work_ok(made, w)
+}
+
+fn templates_ok(ts: [Template; PLACES], n: usize, instructions: u32) -> Checked
+    requires { ⌜ n ≤ places ⌝ }
+    ensures { λ r. ⌜ Checks instructions (itbs (take n ts)) r ⌝ }
+{
+    let mut made = [false; TAGS];
     let mut i: usize = 0;
     while i < n {
         let x = ts[i];
+        if !template_ok(made, x, instructions) {
+            return Checked {
+                ok: false,
+                made: made,
+            };
+        }
         let w = x.work;
-        if x.address.0 >= instructions {
-            return Checked {
-                ok: false,
-                made: made,
-            };
-        }
-        if !work_ok(made, w) {
-            return Checked {
-                ok: false,
-                made: made,
-            };
-        }
         let more = after(w, made);
         made = more;
         i += 1;
@@ -120,7 +128,7 @@ fn templates_ok(ts: [Template; 64], n: usize, instructions: u32) -> Checked
 // ---- registers
 
 // Whether no register from a number on holds the operand's tag.
-fn is_alone(rf: [Register; 32], from: usize, o: Operand) -> bool
+fn is_alone(rf: [Register; REGISTERS], from: usize, o: Operand) -> bool
     ensures { λ r. ⌜ r ≡ isAlone o (drop from rf) ⌝ }
 {
     match o {
@@ -129,12 +137,12 @@ fn is_alone(rf: [Register; 32], from: usize, o: Operand) -> bool
     }
 }
 
-fn tag_from(rf: [Register; 32], from: usize, t: Tag) -> bool
+fn tag_from(rf: [Register; REGISTERS], from: usize, t: Tag) -> bool
     ensures { λ r. ⌜ r ≡ anyReg t (drop from rf) ⌝ }
 {
     let mut i = from;
     loop {
-        if i >= 32 {
+        if i >= REGISTERS {
             break false;
         }
         let x = rf[i];
@@ -146,12 +154,12 @@ fn tag_from(rf: [Register; 32], from: usize, t: Tag) -> bool
     }
 }
 
-fn registers_ok(rf: [Register; 32], made: [bool; 65]) -> bool
+fn registers_ok(rf: [Register; REGISTERS], made: [bool; TAGS]) -> bool
     ensures { λ r. ⌜ r ≡ registersOk (told made) rf ⌝ }
 {
     let mut i: usize = 0;
     loop {
-        if i >= 32 {
+        if i >= REGISTERS {
             break true;
         }
         let x = rf[i];
@@ -181,9 +189,9 @@ fn is_jz(w: Work) -> bool
 }
 
 // The place of the first Jz among the first n templates, or n.
-fn first_jz(ts: [Template; 64], n: usize) -> usize
-    requires { ⌜ n ≤ 64 ⌝ }
-    ensures { λ r. ⌜ r ≡ firstJz (take n ts) ⌝ }
+fn first_jz(ts: [Template; PLACES], n: usize) -> usize
+    requires { ⌜ n ≤ places ⌝ }
+    ensures { λ r. ⌜ r ≡ firstJz (itbs (take n ts)) ⌝ }
 {
     let mut i: usize = 0;
     loop {
@@ -199,9 +207,9 @@ fn first_jz(ts: [Template; 64], n: usize) -> usize
     }
 }
 
-fn counter_ok(c: Counter, ts: [Template; 64], n: usize) -> bool
-    requires { ⌜ n ≤ 64 ⌝ }
-    ensures { λ r. ⌜ r ≡ counterOk c (take n ts) ⌝ }
+fn counter_ok(c: Counter, ts: [Template; PLACES], n: usize) -> bool
+    requires { ⌜ n ≤ places ⌝ }
+    ensures { λ r. ⌜ r ≡ counterOk c (itbs (take n ts)) ⌝ }
 {
     let at = first_jz(ts, n);
     match c {
@@ -227,12 +235,12 @@ fn blank_work(w: Work) -> bool
     }
 }
 
-fn all_blank(ts: [Template; 64], from: usize) -> bool
+fn all_blank(ts: [Template; PLACES], from: usize) -> bool
     ensures { λ r. ⌜ r ≡ allBlank (drop from ts) ⌝ }
 {
     let mut i = from;
     loop {
-        if i >= 64 {
+        if i >= PLACES {
             break true;
         }
         let x = ts[i];
@@ -254,7 +262,7 @@ pub fn is_sound(s: State, instructions: u32) -> bool
     ensures { λ r. ⌜ r ≡ isSound instructions s ⌝ }
 {
     let n = s.count;
-    if n > 64 {
+    if n > ROOM {
         return false;
     }
     let ts = s.templates;

@@ -1,4 +1,4 @@
 -- Laws that belong to no one function.
-pub mod Walks
-pub mod Operands
+pub mod Seeking
 pub mod Places
+pub mod Producers

@@ -1,100 +1,77 @@
--- The 64 places and the machine say each other, and a change of the places is a change of the machine.
+-- The 64 places and the machine say each other.
 use mathlib.Core.Path.{_≡_, refl, sym, ap, ap₂, _∙_}
-use Prim.Native.Nat.{ℕ, suc, _+_, _-_, _≤_, _<_}
+use Prim.Native.Nat.{ℕ, _-_, _≤_}
 use native.Mathlib.Omega.{arith}
-use mathlib.Core.List.{List, [], _∷_, _++_, append-assoc}
-use lib.ListN.{length, set, take, drop, replicate, length-append, length-take, length-drop, length-set, length-map, length-replicate, take-append-drop}
-use lib.Seq.{length-take-le, take-append-seam, drop-append-seam, set-append-left, set-append-seam}
+use mathlib.Core.List.{List, [], _∷_, _++_, map}
+use lib.ListN.{length, take, drop, replicate, length-append, length-take, length-map, length-replicate, take-append-drop}
+use lib.Seq.{length-take-le, take-append-seam, drop-append-seam}
 use Rattle.templates.specs.declared.Counter.{Counter}
 use Rattle.templates.specs.declared.Template.{Template}
 use Rattle.templates.specs.declared.Register.{Register}
 use Rattle.templates.specs.declared.State.{State}
-use Rattle.templates.specs.Templates.{blank}
-use Rattle.templates.specs.Layout.{capacity, Mach, mach, lay, machOf, stateOf, Laid, among, mapFrom, removeAt, removed}
-use Rattle.templates.proofs.Walks.{removed-at}
+use Rattle.templates.specs.Machine.{Itb, Mach, mach}
+use Rattle.templates.specs.Layout.{places, template, itb, blank, itbs, lay, machOf, stateOf, Laid}
 
 -- ---- the layout of a list
 
-pub lay-length : (ts : List Template) → length ts ≤ capacity → length (lay ts) ≡ capacity
-lay-length ts h = simp (length-append, length-replicate) (omega arith)
+pub lay-length : (xs : List Itb) → length xs ≤ places → length (lay xs) ≡ places
+lay-length xs h = simp (length-append, length-map, length-replicate) (omega arith)
 
--- one place changed
-pub lay-set : (ts : List Template) (p : ℕ) (x : Template) → p < length ts → set (lay ts) p x ≡ lay (set ts p x)
-lay-set ts p x h = rw length-set (set-append-left ts (replicate (capacity - length ts) blank) p x h)
+itbs-template : (xs : List Itb) → itbs (map template xs) ≡ xs
+itbs-template [] = refl
+itbs-template (x ∷ xs) = ap (λ (ys : List Itb). x ∷ ys) (itbs-template xs)
 
--- a new last template
-pub lay-snoc : (ts : List Template) (x : Template) → length ts < capacity → set (lay ts) (length ts) x ≡ lay (ts ++ x ∷ [])
-lay-snoc ts x h =
-    let rest = capacity - length (ts ++ x ∷ []) in
-    let one : capacity - length ts ≡ suc rest = omega (arith, length-append ts (x ∷ [])) in
-    rw (one, set-append-seam) (sym (append-assoc ts (x ∷ []) (replicate rest blank)))
+-- in front are the templates, behind them the blanks
+pub lay-front : (xs : List Itb) → take (length xs) (lay xs) ≡ map template xs
+lay-front xs = ap (λ (n : ℕ). take n (lay xs)) (sym (length-map xs template)) ∙ take-append-seam (map template xs) _
 
--- the template at place p gone
-pub lay-remove : (ts : List Template) (p : ℕ) → p < length ts → length ts ≤ capacity
-    → removeAt p ts ++ replicate (capacity - length ts) blank ≡ lay (take p ts ++ drop (suc p) ts)
-lay-remove ts p h u =
-    let rest = capacity - length ts in
-    let more : capacity - length (take p ts ++ drop (suc p) ts) ≡ suc rest = simp (length-append, length-take, length-drop) (omega arith) in
-    rw (more, append-assoc, append-assoc, append-assoc) refl
-
-pub length-mapFrom : {A : Type 0} (f : A → A) (i : ℕ) (xs : List A) → length (mapFrom f i xs) ≡ length xs
-length-mapFrom f i xs = simp (length-append, length-map, length-take, length-drop) (omega arith)
+pub lay-back : (xs : List Itb) → drop (length xs) (lay xs) ≡ replicate (places - length xs) blank
+lay-back xs = ap (λ (n : ℕ). drop n (lay xs)) (sym (length-map xs template)) ∙ drop-append-seam (map template xs) _
 
 -- ---- the state of a machine, and the machine of a state
 
 pub machOf-stateOf : (σ : Mach) → machOf (stateOf σ) ≡ σ
-machOf-stateOf σ = ap (mach (σ .counter) (σ .registers)) (take-append-seam (σ .held) (replicate (capacity - length (σ .held)) blank))
+machOf-stateOf σ = ap (mach (σ .counter) (σ .registers)) (ap itbs (lay-front (σ .held)) ∙ itbs-template (σ .held))
 
-pub stateOf-laid : (σ : Mach) → length (σ .held) ≤ capacity → Laid (stateOf σ)
-stateOf-laid σ h = record { within = h; whole = sym (ap (λ (τ : Mach). lay (τ .held)) (machOf-stateOf σ)) }
+pub stateOf-laid : (σ : Mach) → length (σ .held) ≤ places → Laid (stateOf σ)
+stateOf-laid σ h = record { within = h; whole = sym (ap stateOf (machOf-stateOf σ)) }
+
+abbrev pub placed : Counter → List Register → List Template → ℕ → State
+placed c rf ts n = record { counter = c; registers = rf; templates = ts; count = n }
+
+templates-itb : (ts : List Template) → map template (itbs ts) ≡ ts
+templates-itb [] = refl
+templates-itb (x ∷ ts) = ap (λ (ys : List Template). x ∷ ys) (templates-itb ts)
 
 -- a state whose places behind the templates are blank
-pub blanks-laid : (s : State) → length (s .templates) ≡ capacity → s .count ≤ capacity
-    → drop (s .count) (s .templates) ≡ replicate (capacity - s .count) blank → Laid s
+pub blanks-laid : (s : State) → length (s .templates) ≡ places → s .count ≤ places
+    → drop (s .count) (s .templates) ≡ replicate (places - s .count) blank → Laid s
 blanks-laid s n h e =
-    let long : length (take (s .count) (s .templates)) ≡ s .count = length-take-le (s .count) (s .templates) (omega arith) in
-    record { within = h; whole = sym (rw (long, ← e) (take-append-drop (s .count) (s .templates))) }
-
-abbrev pub places : Counter → List Register → List Template → ℕ → State
-places c rf ts n = record { counter = c; registers = rf; templates = ts; count = n }
+    let ts = take (s .count) (s .templates) in
+    let long : length (itbs ts) ≡ s .count = length-map ts itb ∙ length-take-le (s .count) (s .templates) (omega arith) in
+    let front : map template (itbs ts) ≡ ts = templates-itb ts in
+    record {
+      within = h;
+      whole = ap₂ (placed (s .counter) (s .registers)) (sym (rw (front, long, ← e) (take-append-drop (s .count) (s .templates)))) (sym long);
+    }
 
 module _ (s : State) (l : Laid s) where
-  abbrev held : List Template
+  abbrev held : List Itb
   held = machOf s .held
 
-  pub templates-length : length (s .templates) ≡ capacity
-  templates-length =
-      let few : length held ≤ capacity = omega (arith, length-take (s .count) (s .templates), l .within) in
-      ap length (l .whole) ∙ lay-length held few
+  pub stateOf-machOf : stateOf (machOf s) ≡ s
+  stateOf-machOf = sym (l .whole)
 
   pub held-length : length held ≡ s .count
-  held-length = length-take-le (s .count) (s .templates) (omega (arith, templates-length, l .within))
+  held-length = ap (λ (t : State). t .count) stateOf-machOf
 
-  pub stateOf-machOf : stateOf (machOf s) ≡ s
-  stateOf-machOf = ap₂ (places (s .counter) (s .registers)) (sym (l .whole)) held-length
+  -- the table
+  pub templates-laid : s .templates ≡ lay held
+  templates-laid = ap (λ (t : State). t .templates) (l .whole)
+
+  pub templates-length : length (s .templates) ≡ places
+  templates-length = ap length templates-laid ∙ lay-length held (omega (arith, held-length, l .within))
 
   -- the places behind the templates
-  blanks : drop (s .count) (s .templates) ≡ replicate (capacity - length held) blank
-  blanks = ap₂ drop (sym held-length) (l .whole) ∙ drop-append-seam held _
-
-  -- ---- a rule's change of the places, and any other counter and registers
-  module _ (c : Counter) (rf : List Register) where
-    pub state-set : (p : ℕ) (x : Template) → p < s .count → places c rf (set (s .templates) p x) (s .count) ≡ stateOf (mach c rf (set held p x))
-    state-set p x h =
-        ap₂ (places c rf) (ap (λ ts. set ts p x) (l .whole) ∙ lay-set held p x (omega (arith, held-length))) (sym (length-set held p x ∙ held-length))
-
-    pub state-snoc : (x : Template) → s .count < capacity → places c rf (set (s .templates) (s .count) x) (s .count + 1) ≡ stateOf (mach c rf (held ++ x ∷ []))
-    state-snoc x h =
-        ap₂ (places c rf) (ap₂ (λ ts n. set ts n x) (l .whole) (sym held-length) ∙ lay-snoc held x (omega (arith, held-length)))
-        (omega (arith, held-length, length-append held (x ∷ [])))
-
-    pub state-map : (f : Template → Template) (i : ℕ) → places c rf (among (s .count) (mapFrom f i) (s .templates)) (s .count) ≡ stateOf (mach c rf (mapFrom f i held))
-    state-map f i = rw length-mapFrom (ap₂ (places c rf) (ap (λ ts. mapFrom f i held ++ ts) blanks) (sym held-length))
-
-    pub state-removed : (p : ℕ) → p < s .count
-        → places c rf (among (s .count) (removed p) (s .templates)) (s .count - 1) ≡ stateOf (mach c rf (take p held ++ drop (suc p) held))
-    state-removed p h =
-        let n = held-length in
-        let here : p < length held = omega arith in
-        ap₂ (places c rf) (ap₂ _++_ (removed-at p held here) blanks ∙ lay-remove held p here (omega (arith, l .within)))
-        (simp (length-append, length-take, length-drop) (omega (arith, templates-length, l .within)))
+  pub blanks : drop (s .count) (s .templates) ≡ replicate (places - length held) blank
+  blanks = ap₂ drop (sym held-length) templates-laid ∙ lay-back held

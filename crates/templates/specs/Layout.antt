@@ -1,66 +1,50 @@
--- The machine without blanks, and its layout: 64 places, of which those behind the templates are blank.
+-- The layout of a machine: a table of 64 places, of which those behind the templates are blank.
 use mathlib.Core.Path.{_≡_}
-use Prim.Native.Nat.{ℕ, suc, _-_, _≤_}
-use mathlib.Core.Bool.{cond}
-use mathlib.Core.List.{List, [], _∷_, _++_, map}
-use lib.Dec.{ltb}
-use lib.ListN.{length, take, drop, replicate}
-use Rattle.value.specs.declared.Value.the-variants.{Undefined}
-use Rattle.isa.specs.Instruction.{registers}
-use Rattle.templates.specs.declared.Operand.the-variants.{Known}
-use Rattle.templates.specs.declared.Counter.{Counter}
-use Rattle.templates.specs.declared.Counter.the-variants.{At}
+use Prim.Native.Nat.{ℕ, _-_, _≤_}
+use mathlib.Core.List.{List, _++_, map}
+use lib.ListN.{length, take, replicate}
+use Rattle.value.specs.declared.Value.{Value}
+use Rattle.isa.specs.declared.Tag.{Tag}
 use Rattle.templates.specs.declared.Template.{Template}
-use Rattle.templates.specs.declared.Register.{Register}
 use Rattle.templates.specs.declared.State.{State}
-use Rattle.templates.specs.Templates.{blank, register}
+use Rattle.templates.specs.Machine.{Itb, ITB, nothing, fillItb, Mach, mach}
 
--- the most templates
-abbrev pub capacity : ℕ
-capacity = 64
+-- the places of the table
+abbrev pub places : ℕ
+places = 64
 
--- the memo's Proc without its program: `held` is its ITBs, the oldest first
-pub record Mach : Type 0 where
-  pub counter : Counter
-  pub registers : List Register
-  pub held : List Template
+-- ---- one place: what is derived from a template's work would stand here
 
-abbrev pub mach : Counter → List Register → List Template → Mach
-mach c rf ts = record { counter = c; registers = rf; held = ts }
+abbrev pub template : Itb → Template
+template x = record { address = x .address; work = x .work }
 
-abbrev pub start : Mach
-start = mach (At (record { 0 = 0 })) (replicate registers (register (Known Undefined))) []
+abbrev pub itb : Template → Itb
+itb x = ITB (x .address) (x .work)
 
--- ---- layout
+-- address 0, tag 0, undefined value: it isn't a template
+abbrev pub blank : Template
+blank = template nothing
 
-abbrev pub lay : List Template → List Template
-lay ts = ts ++ replicate (capacity - length ts) blank
+abbrev pub fillTemplate : Tag → Value → Template → Template
+fillTemplate t v x = template (fillItb t v (itb x))
+
+-- ---- all places
+
+abbrev pub itbs : List Template → List Itb
+itbs ts = map itb ts
+
+abbrev pub lay : List Itb → List Template
+lay xs = map template xs ++ replicate (places - length xs) blank
+
+-- ---- the whole state
 
 abbrev pub machOf : State → Mach
-machOf s = mach (s .counter) (s .registers) (take (s .count) (s .templates))
+machOf s = mach (s .counter) (s .registers) (itbs (take (s .count) (s .templates)))
 
 abbrev pub stateOf : Mach → State
 stateOf σ = record { counter = σ .counter; registers = σ .registers; templates = lay (σ .held); count = length (σ .held) }
 
 -- a state that is a machine's layout
 pub record Laid (s : State) : Type 0 where
-  pub within : s .count ≤ capacity
-  pub whole : s .templates ≡ lay (take (s .count) (s .templates))
-
--- ---- changes of the places
-
--- the first n places changed, the others as they were
-abbrev pub among : {A : Type 0} → ℕ → (List A → List A) → List A → List A
-among n f xs = f (take n xs) ++ drop n xs
-
--- every place from i on changed by f
-abbrev pub mapFrom : {A : Type 0} → (A → A) → ℕ → List A → List A
-mapFrom f i xs = take i xs ++ map f (drop i xs)
-
--- the template at place p gone: later ones move down one place, and the blank comes in at the end
-abbrev pub removeAt : ℕ → List Template → List Template
-removeAt p ts = take p ts ++ (drop (suc p) ts ++ blank ∷ [])
-
--- a place that is none leaves them
-abbrev pub removed : ℕ → List Template → List Template
-removed p ts = cond (ltb p (length ts)) (removeAt p ts) ts
+  pub within : s .count ≤ places
+  pub whole : s ≡ stateOf (machOf s)

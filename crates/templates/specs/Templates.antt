@@ -1,19 +1,17 @@
--- What a template makes and holds, and what filling a tag in does.
+-- What a template's work makes and holds, and what filling a tag in does; the same of registers.
 use Prim.Native.Nat.{ℕ}
 use mathlib.Core.Bool.{Bool, true, false, cond, _||_}
 use mathlib.Core.List.{List, [], _∷_, map}
 use lib.Dec.{eqb}
 use lib.ListN.{getD, set}
 use Rattle.value.specs.declared.Value.{Value}
-use Rattle.value.specs.declared.Value.the-variants.{Undefined}
-use Rattle.isa.specs.declared.InstrAddr.{InstrAddr}
+use Rattle.value.specs.Operation.{undefined}
 use Rattle.isa.specs.declared.Reg.{Reg}
 use Rattle.isa.specs.declared.Tag.{Tag}
 use Rattle.templates.specs.declared.Operand.{Operand}
 use Rattle.templates.specs.declared.Operand.the-variants.{Known, Waits}
 use Rattle.templates.specs.declared.Work.{Work}
 use Rattle.templates.specs.declared.Work.the-variants.{Done, Op, Jz, Load, Store}
-use Rattle.templates.specs.declared.Template.{Template}
 use Rattle.templates.specs.declared.Register.{Register}
 
 -- 0 means no tag
@@ -23,19 +21,12 @@ noTag = record { 0 = 0 }
 abbrev pub sameTag : Tag → Tag → Bool
 sameTag s t = eqb (s .0) (t .0)
 
-abbrev pub template : InstrAddr → Work → Template
-template a w = record { address = a; work = w }
-
--- address 0, tag 0, undefined value: it isn't a template
-abbrev pub blank : Template
-blank = template (record { 0 = 0 }) (Done noTag Undefined)
-
 -- one of a list
 abbrev pub any : {A : Type 0} → (A → Bool) → List A → Bool
 any f [] = false
 any f (x ∷ xs) = f x || any f xs
 
--- ---- one template
+-- ---- one template's work
 
 -- the tag that it makes, its name; 0 for none
 abbrev pub makes : Work → Tag
@@ -52,10 +43,10 @@ waits t (Waits s) = sameTag s t
 
 -- its first operand at 0, else its second; undefined where there is none
 abbrev pub operandAt : Work → ℕ → Operand
-operandAt (Done t v) j = Known Undefined
+operandAt (Done t v) j = Known undefined
 operandAt (Op t n x y) j = cond (eqb j 0) x y
 operandAt (Jz x y) j = cond (eqb j 0) x y
-operandAt (Load t x) j = cond (eqb j 0) x (Known Undefined)
+operandAt (Load t x) j = cond (eqb j 0) x (Known undefined)
 operandAt (Store x y) j = cond (eqb j 0) x y
 
 -- one of its operands holds the tag t
@@ -86,30 +77,13 @@ fillWork t v (Jz x y) = Jz (fill t v x) (fill t v y)
 fillWork t v (Load s x) = Load s (fill t v x)
 fillWork t v (Store x y) = Store (fill t v x) (fill t v y)
 
-abbrev pub fillTemplate : Tag → Value → Template → Template
-fillTemplate t v x = template (x .address) (fillWork t v (x .work))
-
--- ---- several templates
-
-abbrev pub anyMakes : Tag → List Template → Bool
-anyMakes t xs = any (λ x. sameTag (makes (x .work)) t) xs
-
-abbrev pub anyHolds : Tag → List Template → Bool
-anyHolds t xs = any (λ x. holds t (x .work)) xs
-
-abbrev pub anyMemory : List Template → Bool
-anyMemory xs = any (λ x. isMemory (x .work)) xs
-
-abbrev pub fillAll : Tag → Value → List Template → List Template
-fillAll t v xs = map (fillTemplate t v) xs
-
 -- ---- registers
 
 abbrev pub register : Operand → Register
 register o = record { holds = o }
 
 abbrev pub contents : List Register → Reg → Operand
-contents rf r = getD rf (r .0) (register (Known Undefined)) .holds
+contents rf r = getD rf (r .0) (register (Known undefined)) .holds
 
 abbrev pub put : List Register → Reg → Operand → List Register
 put rf r o = set rf (r .0) (register o)

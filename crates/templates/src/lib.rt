@@ -1,12 +1,23 @@
-// The renaming machine's state: templates, registers and counter; and the leaves of the template table.
+// The renaming machine's state: templates, registers and counter; and one template's leaves.
 ghost use mathlib.Core.Path.{_≡_};
-ghost use Rattle.templates.specs.Layout.{start, stateOf};
+ghost use Rattle.templates.specs.Machine.{start};
+ghost use Rattle.templates.specs.Layout.{stateOf};
 use isa::InstrAddr;
 use isa::Tag;
 use value::Value;
 
 pub mod leaf;
-pub mod table;
+
+// The places of the table.
+pub const PLACES: usize = 64;
+
+// The most templates that a machine has room for.
+pub const ROOM: usize = 64;
+
+// Tags are 1 to this one; with 0, for none, there are so many numbers.
+pub const LAST_TAG: u8 = 64;
+
+pub const TAGS: usize = 65;
 
 // What a register or an operand holds: a value, or the tag that it waits for.
 pub enum Operand {
@@ -40,8 +51,8 @@ pub enum Counter {
 // The first `count` places of the table hold the templates, the oldest first; the others are blank.
 pub struct State {
     pub counter: Counter,
-    pub registers: [Register; 32],
-    pub templates: [Template; 64],
+    pub registers: [Register; isa::REGISTERS],
+    pub templates: [Template; PLACES],
     pub count: usize,
 }
 
@@ -52,9 +63,9 @@ impl State {
         State {
             counter: Counter::At(InstrAddr(0)),
             registers: [Register {
-                holds: Operand::Known(Value::Undefined),
-            }; 32],
-            templates: [table::blank(); 64],
+                holds: Operand::Known(value::UNDEFINED),
+            }; isa::REGISTERS],
+            templates: [leaf::blank(); PLACES],
             count: 0,
         }
     }

@@ -9,6 +9,10 @@ use mir.Val.{toZ, ofZ}
 use Rattle.value.specs.declared.Value.{Value}
 use Rattle.value.specs.declared.Value.the-variants.{Undefined, Word}
 
+-- the value that doesn't exist: built here alone
+abbrev pub undefined : Value
+undefined = Undefined
+
 -- the low 32 bits
 abbrev pub low : ℕ → ℕ
 low n = n % 2 ^ 32
@@ -31,7 +35,7 @@ mul a b = low (a * b)
 
 -- the quotient, rounded toward zero; a zero divisor has none; -2^31 by -1 is the word 2^31
 abbrev pub div : ℕ → ℕ → Value
-div a b = cond (eqb b 0) Undefined (Word (wordOf (quotZ (signed a) (signed b))))
+div a b = cond (eqb b 0) undefined (Word (wordOf (quotZ (signed a) (signed b))))
 
 -- 1 if the first is smaller, else 0
 abbrev pub less : ℕ → ℕ → ℕ
@@ -45,9 +49,9 @@ onWords n a b =
     (cond (eqb n 2) (Word (mul a b))
     (cond (eqb n 3) (div a b)
     (cond (eqb n 4) (Word (less a b))
-    Undefined))))
+    undefined))))
 
 unfoldable pub result : ℕ → Value → Value → Value
-result n Undefined y = Undefined
-result n (Word a) Undefined = Undefined
+result n Undefined y = undefined
+result n (Word a) Undefined = undefined
 result n (Word a) (Word b) = onWords n a b

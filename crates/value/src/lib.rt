@@ -7,6 +7,9 @@ pub enum Value {
     Word(u32),
 }
 
+// The value that doesn't exist: built here alone.
+pub const UNDEFINED: Value = Value::Undefined;
+
 // A word, read as two's complement.
 fn signed(word: u32) -> i32
     ensures { λ r. ⌜ r ≡ signed word ⌝ }
@@ -52,7 +55,7 @@ fn quotient(a: u32, b: u32) -> Value
     ensures { λ r. ⌜ r ≡ div a b ⌝ }
 {
     if b == 0 {
-        return Value::Undefined;
+        return UNDEFINED;
     }
     if a == 2147483648 {
         if b == 4294967295 {
@@ -73,16 +76,16 @@ pub fn operate(operation: u8, first: Value, second: Value) -> Value
     ensures { λ r. ⌜ r ≡ result operation first second ⌝ }
 {
     match first {
-        Value::Undefined => Value::Undefined,
+        Value::Undefined => UNDEFINED,
         Value::Word(a) => match second {
-            Value::Undefined => Value::Undefined,
+            Value::Undefined => UNDEFINED,
             Value::Word(b) => match operation {
                 0 => Value::Word(plus(a, b)),
                 1 => Value::Word(minus(a, b)),
                 2 => Value::Word(times(a, b)),
                 3 => quotient(a, b),
                 4 => Value::Word(smaller(a, b)),
-                _ => Value::Undefined,
+                _ => UNDEFINED,
             },
         },
     }

@@ -5,7 +5,7 @@ use native.Mathlib.Omega.{arith}
 use lib.ListN.{drop}
 use borrow.Author.Needs.{needs}
 use borrow.Author.Tests.{eq-eqb, ne-eqb, not-true, not-false}
-use Rattle.templates.specs.Templates.{blank}
+use Rattle.templates.specs.Layout.{blank}
 use Rattle.sound.specs.Sound.{allBlank}
 use Rattle.sound.proofs.Turns.{Walking, walk-on, walk-out, walk-end}
 use Rattle.sound.proofs.all_blank.Statement.{statement}

@@ -1,22 +1,23 @@
 -- `sound::counter_ok` meets its contract.
-use mathlib.Core.Path.{_≡_}
+use mathlib.Core.Path.{_≡_, _∙_}
 use native.Mathlib.Omega.{arith}
 use mathlib.Core.List.{List}
-use lib.ListN.{length, take}
+use lib.ListN.{length, take, length-map}
 use lib.Seq.{length-take-le}
 use borrow.Author.Needs.{needs}
-use Rattle.templates.specs.declared.Template.{Template}
+use Rattle.templates.specs.Machine.{Itb}
+use Rattle.templates.specs.Layout.{itb, itbs}
 use Rattle.sound.proofs.LastJz.{first-within, first-none, first-last}
 use Rattle.sound.proofs.counter_ok.Statement.{statement}
 use Rattle.sound.proofs.counter_ok.Tie as tie
 
-abbrev held : tie.Start → List Template
-held c = take (c .args .n) (c .args .ts)
+abbrev held : tie.Start → List Itb
+held c = itbs (take (c .args .n) (c .args .ts))
 
 long : (c : tie.Start) → length (held c) ≡ c .args .n
 long c =
     let all : length (c .args .ts) ≡ 64 = search needs in
-    length-take-le (c .args .n) (c .args .ts) (omega arith)
+    length-map (take (c .args .n) (c .args .ts)) itb ∙ length-take-le (c .args .n) (c .args .ts) (omega arith)
 
 first-jz-requires : tie.Need-first-jz-requires
 first-jz-requires c κs = search needs

@@ -5,14 +5,14 @@ use native.Mathlib.Omega.{arith}
 use lib.ListN.{length, take}
 use lib.Seq.{length-take-le, getD-take}
 use borrow.Author.Needs.{needs}
-use Rattle.templates.specs.Templates.{blank}
+use Rattle.templates.specs.Layout.{blank, itbs}
 use Rattle.sound.specs.Search.{firstJz}
 use Rattle.sound.proofs.Turns.{Walking, walk-on, walk-out, walk-end}
 use Rattle.sound.proofs.first_jz.Statement.{statement}
 use Rattle.sound.proofs.first_jz.Tie as tie
 
 abbrev Inv-loop : tie.InvT-loop
-Inv-loop n ts i₀ i = Walking (λ j xs. j + firstJz xs) n (take n ts) i (firstJz (take n ts))
+Inv-loop n ts i₀ i = Walking (λ j xs. j + firstJz (itbs xs)) n (take n ts) i (firstJz (itbs (take n ts)))
 
 abbrev μ-loop : tie.MeasureT-loop
 μ-loop n ts i₀ i = n - i

@@ -3,21 +3,22 @@ use mathlib.Core.Path.{_≡_, sym, ap, _∙_}
 use Prim.Native.Nat.{ℕ, _≤_}
 use native.Mathlib.Omega.{arith}
 use mathlib.Core.Bool.{_&&_}
-use lib.ListN.{length, drop, length-take}
+use lib.ListN.{length, take, drop, length-take, length-map}
 use borrow.Author.Tests.{le-leb, lt-leb, not-true, not-false}
 use Rattle.templates.specs.declared.State.{State}
-use Rattle.templates.specs.Layout.{machOf, capacity}
+use Rattle.templates.specs.Machine.{room}
+use Rattle.templates.specs.Layout.{itb, machOf}
 use Rattle.sound.specs.Sound.{Produced, none, afterAll, allBlank, templatesOk, registersOk, counterOk, isSound, soundMach}
 use borrow.Author.Needs.{needs}
 use Rattle.sound.proofs.is_sound.Statement.{statement}
 use Rattle.sound.proofs.is_sound.Tie as tie
 
 -- the tests that are left of a state with few templates, in the code's order
-tests : (k : ℕ) (s : State) → s .count ≤ capacity
+tests : (k : ℕ) (s : State) → s .count ≤ room
     → isSound k s ≡ (allBlank (drop (s .count) (s .templates)) && (templatesOk k none (machOf s .held) && (registersOk (afterAll (machOf s .held) none) (s .registers) && counterOk (s .counter) (machOf s .held))))
 unfolding isSound soundMach
 tests k s h =
-    let few : length (machOf s .held) ≤ capacity = omega (arith, length-take (s .count) (s .templates)) in
+    let few : length (machOf s .held) ≤ room = omega (arith, length-take (s .count) (s .templates), length-map (take (s .count) (s .templates)) itb) in
     rw (le-leb _ _ h, le-leb _ _ few)
 
 returns : tie.Need-returns

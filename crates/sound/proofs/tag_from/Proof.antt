@@ -6,7 +6,7 @@ use lib.ListN.{length, drop}
 use lib.Seq.{take-all}
 use borrow.Author.Needs.{needs}
 use Rattle.templates.specs.Templates.{waits, anyReg}
-use Rattle.templates.proofs.Walks.{Seeking, seek-on, seek-hit, seek-end}
+use Rattle.templates.proofs.Seeking.{Seeking, seek-on, seek-hit, seek-end}
 use Rattle.sound.proofs.tag_from.Statement.{statement}
 use Rattle.sound.proofs.tag_from.Tie as tie
 

@@ -4,7 +4,7 @@ use native.Mathlib.Nat.{pos-of-ne-zero}
 use lib.ListN.{getD}
 use Rattle.cells.specs.Cells.{cells}
 use Rattle.templates.specs.declared.Work.the-variants.{Done, Op, Jz, Load, Store}
-use Rattle.templates.specs.Templates.{blank}
+use Rattle.templates.specs.Layout.{blank}
 use Rattle.renaming.proofs.Emptying.{blocking-none, blocking-is, blocking-answer, retire-blocked, store-blocked}
 use borrow.Author.Needs.{needs}
 use Rattle.renaming.proofs.draining.blocked_by.Statement.{statement}

@@ -4,7 +4,7 @@ use Rattle.cells.specs.Cells.{cells}
 use Rattle.kernel.specs.Kernel.{readAt}
 use Rattle.kernel.proofs.Answers.{loaded-is, loaded-no}
 use Rattle.templates.specs.declared.Work.the-variants.{Load}
-use Rattle.templates.specs.Templates.{anyMemory}
+use Rattle.templates.specs.Machine.{anyMemory}
 use Rattle.renaming.proofs.Changes.{before-table}
 use Rattle.renaming.proofs.Told.{stands-as}
 use borrow.Author.Needs.{needs}

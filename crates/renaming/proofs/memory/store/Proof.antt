@@ -1,7 +1,7 @@
 -- `renaming::memory::store` meets its contract.
 use mathlib.Core.Path.{ap, ap₂, refl, _∙_}
 use Rattle.templates.specs.declared.Work.the-variants.{Store}
-use Rattle.templates.specs.Templates.{anyMemory}
+use Rattle.templates.specs.Machine.{anyMemory}
 use Rattle.renaming.proofs.Changes.{before-table}
 use Rattle.renaming.proofs.Told.{stands-as}
 use borrow.Author.Needs.{needs}

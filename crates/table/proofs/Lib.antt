@@ -1,0 +1,4 @@
+-- Laws that belong to no one function.
+pub mod Walks
+pub mod Operands
+pub mod Placed
