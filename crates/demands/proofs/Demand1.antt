@@ -51,7 +51,7 @@ use Rattle.renaming.specs.Entries.{enteredWith, once, stepAnswer, stepped, step
 use Rattle.renaming.proofs.Going.{run-refused, schedule-whole, commandAt}
 use Rattle.renaming.proofs.Emptying.{drain-refused}
 use Rattle.report.specs.declared.Reported.{Reported}
-use Rattle.report.specs.Lines.{contentsText}
+use Rattle.report.specs.Report.{contentsText}
 use Rattle.report.specs.Report as Report
 use Rattle.demands.specs.Demand1.{AreBytes, Demand1}
 use Rattle.rules.proofs.Accepted.{run-accepts, allowed-accepted}

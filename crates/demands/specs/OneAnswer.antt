@@ -1,9 +1,9 @@
 -- A public entry's promise admits one answer, and one content of the buffer that it was lent.
-use Prim.Native.Nat.{ℕ}
+use Prim.Native.Nat.{ℕ, _+_}
 use mathlib.Core.Path.{_≡_}
 use mathlib.Core.Bool.{Bool}
 use mathlib.Core.List.{List}
-use lib.ListN.{getElem?, take, drop}
+use lib.ListN.{length, getElem?, take, drop}
 use Rattle.records.specs.declared.Found.{Found}
 use Rattle.records.specs.declared.Record.{Record}
 use Rattle.records.specs.declared.Verdict.{Verdict}
@@ -12,7 +12,7 @@ use Rattle.records.specs.Records as Records
 use Rattle.records.specs.Scan.{judged}
 use Rattle.value.specs.declared.Value.{Value}
 use Rattle.value.specs.Operation.{result}
-use Rattle.text.specs.Text.{Put, decimal}
+use Rattle.text.specs.Text.{Put, decimal, numbered}
 use Rattle.isa.specs.declared.InstrAddr.{InstrAddr}
 use Rattle.isa.specs.declared.DataAddr.{DataAddr}
 use Rattle.isa.specs.declared.Reg.{Reg}
@@ -38,6 +38,7 @@ use Rattle.templates.specs.declared.Operand.{Operand}
 use Rattle.templates.specs.declared.Work.{Work}
 use Rattle.templates.specs.declared.Template.{Template}
 use Rattle.templates.specs.declared.Register.{Register}
+use Rattle.templates.specs.declared.Counter.{Counter}
 use Rattle.templates.specs.declared.State.{State}
 use Rattle.templates.specs.Templates.{waits, makes, fill, anyReg, fillRegs, contents, put}
 use Rattle.templates.specs.Templates as Templates
@@ -48,6 +49,7 @@ use Rattle.templates.specs.Layout as Layout
 use Rattle.table.specs.Table.{among, mapFrom, removed}
 use Rattle.sound.specs.Sound as Sound
 use Rattle.renaming.specs.Entries.{Steps, Runs, Drains}
+use Rattle.lines.specs.Lines.{inputText, ranText, drainedText, blockedText, counterText, valueText, registerText, Puts}
 use Rattle.report.specs.Report.{Reports, Shows}
 
 -- of a promise about an answer
@@ -75,6 +77,13 @@ pub record OneAnswers : Type 0 where
   pub putText : (b : List ℕ) (at : ℕ) (t : List ℕ) → OneAnswerAndBuffer (Put b at t)
   pub putDecimal : (b : List ℕ) (at n : ℕ) → OneAnswerAndBuffer (Put b at (decimal n))
   pub writeAt : (b : List ℕ) (a v : Value) → OneAnswerAndBuffer (Writes b a v)
+  pub putInput : (b : List ℕ) (file refusal number : ℕ) → OneAnswerAndBuffer (Puts b 0 (inputText file refusal number) 35)
+  pub putRan : (b : List ℕ) (at accepted refusal issued : ℕ) → OneAnswerAndBuffer (Puts b at (ranText accepted refusal issued) 70)
+  pub putDrained : (b : List ℕ) (at rules : ℕ) → OneAnswerAndBuffer (Puts b at (drainedText rules) 29)
+  pub putBlocked : (b : List ℕ) (at : ℕ) (a : InstrAddr) (refusal rules : ℕ) → OneAnswerAndBuffer (Puts b at (blockedText a refusal rules) 53)
+  pub putCounter : (b : List ℕ) (at : ℕ) (c : Counter) → OneAnswerAndBuffer (Puts b at (counterText c) 14)
+  pub putValue : (b : List ℕ) (at : ℕ) (name : List ℕ) (i : ℕ) (v : Value) → OneAnswerAndBuffer (Puts b at (valueText name i v) (length name + 22))
+  pub putRegisters : (b : List ℕ) (at : ℕ) (rf : List Register) → OneAnswerAndBuffer (Puts b at (numbered registerText 0 rf) 736)
   pub shows : (s : State) (b out : List ℕ) → OneAnswerAndBuffer (Shows s b out)
   pub report : (p b s out : List ℕ) → OneAnswerAndBuffers (Reports p b s out)
   -- then those whose promise is one equation

@@ -17,8 +17,8 @@ use Rattle.rules.specs.Drain.{drainFrom, oldest}
 use Rattle.entry.specs.Entry.{entered}
 use Rattle.renaming.specs.Entries.{ran, ranMemory, drained, drainedMemory}
 use Rattle.text.specs.Text.{ascii, decimal, numbered}
-use Rattle.report.specs.Lines.{ranText, drainedText, endText, counterText, namedText, valueText, operandText, contentsText}
-use Rattle.report.specs.Report.{judged, runText, report}
+use Rattle.lines.specs.Lines.{ranText, drainedText, counterText, namedText, valueText, operandText}
+use Rattle.report.specs.Report.{judged, endText, contentsText, runText, report}
 
 -- r1 := Loadc(6); r2 := Loadc(0); r3 := Div(r1,r2); r4 := Add(r1,r1); Store(r2,r4)
 program : List ℕ

@@ -1,6 +1,5 @@
 -- Laws that belong to no one function.
-pub mod Putting
-pub mod Looping
+pub mod Loading
 pub mod Telling
 pub mod Writing
 pub mod Examples

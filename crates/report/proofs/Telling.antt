@@ -9,9 +9,9 @@ use Rattle.templates.specs.Layout.{stateOf}
 use Rattle.renaming.specs.declared.Ran.{Ran}
 use Rattle.renaming.specs.declared.Settled.{Settled}
 use Rattle.renaming.specs.Entries.{ran, ranMemory, drained, drainedMemory, Runs, Drains}
-use Rattle.report.specs.Lines.{ranText, endText, contentsText, Puts}
-use Rattle.report.specs.Report.{theRun, afterRun, theDrain, afterDrain, told, runText, Tells}
-use Rattle.report.proofs.Putting.{then}
+use Rattle.lines.specs.Lines.{ranText, Puts}
+use Rattle.lines.proofs.Putting.{then}
+use Rattle.report.specs.Report.{theRun, afterRun, theDrain, afterDrain, endText, contentsText, told, runText, Tells}
 
 module _ {p m s b : List ℕ} where
   pub run-told : {σ : State} {r : Ran} {d : Settled} {m₁ m₂ b₁ b₂ b₃ : List ℕ} {i j k : ℕ}

@@ -16,9 +16,9 @@ use Rattle.cells.specs.Cells as Cells
 use Rattle.cells.specs.Cells.{cells}
 use Rattle.templates.specs.declared.State.{State}
 use Rattle.text.proofs.Puts.{put-into}
+use Rattle.lines.specs.Lines.{Puts}
 use Rattle.report.specs.declared.Input.{Input}
-use Rattle.report.specs.Lines.{contentsText, Puts}
-use Rattle.report.specs.Report.{input, fit, isSchedule, unless, judged, inputText, runText, report, room, hasRoom, isFit, answer, Writes, Reports, Shows, Tells}
+use Rattle.report.specs.Report.{input, fit, isSchedule, unless, judged, inputText, contentsText, runText, report, room, hasRoom, isFit, answer, Writes, Reports, Shows, Tells}
 
 -- ---- a memory that is whole cells
 whole-few : (b : List ℕ) → isWhole b ≡ true → length b ≤ 8192

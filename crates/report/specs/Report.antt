@@ -8,19 +8,21 @@ use lib.ListN.{length}
 use Rattle.records.specs.declared.Verdict.{Verdict}
 use Rattle.records.specs.Refusal.{badLength}
 use Rattle.records.specs.Records.{isWhole}
+use Rattle.value.specs.declared.Value.{Value}
 use Rattle.isa.specs.Program as Program
 use Rattle.cells.specs.Cells as Cells
 use Rattle.cells.specs.Cells.{cells}
-use Rattle.text.specs.Text.{into, ascii, decimal}
+use Rattle.text.specs.Text.{into, numbered}
 use Rattle.templates.specs.declared.State.{State}
 use Rattle.templates.specs.Machine.{start}
 use Rattle.templates.specs.Layout.{stateOf}
 use Rattle.renaming.specs.declared.Ran.{Ran}
 use Rattle.renaming.specs.declared.Settled.{Settled}
 use Rattle.renaming.specs.Entries.{ran, ranMemory, drained, drainedMemory}
+use Rattle.lines.specs.Lines.{ranText, drainedText, blockedText, counterText, registerText, cellText, Puts}
+use Rattle.lines.specs.Lines as Lines
 use Rattle.report.specs.declared.Input.{Input}
 use Rattle.report.specs.declared.Reported.{Reported}
-use Rattle.report.specs.Lines.{ranText, endText, contentsText, Puts}
 
 -- ---- refused input
 
@@ -51,9 +53,8 @@ judged p m s =
     (input 2 badLength 0))
     (input 1 badLength 0)
 
-unfoldable pub inputText : Input → List ℕ
-inputText f =
-    ascii "input " ++ (decimal (f .file) ++ (ascii " " ++ (decimal (f .refusal) ++ (ascii " " ++ (decimal (f .number) ++ ascii "\n")))))
+abbrev pub inputText : Input → List ℕ
+inputText f = Lines.inputText (f .file) (f .refusal) (f .number)
 
 -- ---- a run from the start, then a drain
 
@@ -68,6 +69,14 @@ theDrain p m s = drained p (theRun p m s .state) (afterRun p m s)
 
 abbrev pub afterDrain : List ℕ → List ℕ → List ℕ → List ℕ
 afterDrain p m s = drainedMemory p (theRun p m s .state) (afterRun p m s)
+
+-- blocked, if templates remain
+unfoldable pub endText : Settled → List ℕ
+endText d = cond (eqb (d .state .count) 0) (drainedText (d .rules)) (blockedText (d .address) (d .refusal) (d .rules))
+
+-- the counter, then registers and cells, ascending
+unfoldable pub contentsText : State → List Value → List ℕ
+contentsText s m = counterText (s .counter) ++ (numbered registerText 0 (s .registers) ++ numbered cellText 0 m)
 
 -- what is said of a run, of the drain and of memory after it
 abbrev pub told : Ran → Settled → List ℕ → List ℕ

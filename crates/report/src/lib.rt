@@ -4,7 +4,7 @@ ghost use lib.ListN.{length};
 ghost use Rattle.report.specs.Report.{Tells, Reports, Shows};
 
 mod judging;
-mod lines;
+mod putting;
 
 use records::refusal;
 use templates::State;
@@ -34,9 +34,9 @@ fn put_run(program: &[u8], memory: &mut [u8], schedule: &[u8], out: &mut [u8]) -
     let state = ran.state;
     let end = renaming::drain(state, program, memory);
     let third = lines::put_ran(out, 0, ran.accepted, ran.refusal, ran.issued);
-    let fourth = lines::put_end(out, third, end);
+    let fourth = putting::put_end(out, third, end);
     let left = end.state;
-    lines::put_contents(out, fourth, left, &memory[..])
+    putting::put_contents(out, fourth, left, &memory[..])
 }
 
 // The report of three files' bytes; memory is then as the drain leaves it.
@@ -53,7 +53,7 @@ pub fn report(program: &[u8], memory: &mut [u8], schedule: &[u8], out: &mut [u8]
     if verdict.refusal != 0 {
         return Reported {
             refusal: 0,
-            written: lines::put_input(out, verdict),
+            written: lines::put_input(out, verdict.file, verdict.refusal, verdict.number),
         };
     }
     Reported {
@@ -74,6 +74,6 @@ pub fn contents(state: State, memory: &[u8], out: &mut [u8]) -> Reported
     }
     Reported {
         refusal: 0,
-        written: lines::put_contents(out, 0, state, memory),
+        written: putting::put_contents(out, 0, state, memory),
     }
 }

@@ -1,0 +1,18 @@
+-- `lines::put_word` meets its contract.
+use native.Mathlib.Omega.{arith}
+use Rattle.lines.proofs.Putting.{digits-of}
+use borrow.Author.Needs.{needs}
+use Rattle.lines.proofs.put_word.Statement.{statement}
+use Rattle.lines.proofs.put_word.Tie as tie
+
+put-decimal-requires : tie.Need-put-decimal-requires
+put-decimal-requires c κs = search needs
+
+same-length : tie.Need-same-length
+same-length c = search needs
+
+returns : tie.Need-returns
+returns c = digits-of 10 (c .before .before .before .before .before .args .word) (omega arith) (omega (arith, c .before .before .before .before .before .fits .word)) (c .before .before .put-decimal .ensures)
+
+pub put-word-spec : {M : Type 1} → statement M
+put-word-spec = tie.close (tie.spec put-decimal-requires same-length returns)
