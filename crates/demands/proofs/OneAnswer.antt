@@ -77,5 +77,7 @@ one-answers =
       fillRegisters = λ rf t v. one-answer _;
       readRegister = λ rf r. one-answer _;
       writeRegister = λ rf r o. one-answer _;
+      enter = λ p b s r r′ e f. one-answer _ r r′ (e .verdict) (f .verdict);
+      readCommand = λ rule place tag last. one-answer _;
       isSound = λ s instructions. one-answer _;
     }

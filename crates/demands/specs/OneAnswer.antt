@@ -48,6 +48,9 @@ use Rattle.templates.specs.Layout.{itbs, stateOf}
 use Rattle.templates.specs.Layout as Layout
 use Rattle.table.specs.Table.{among, mapFrom, removed}
 use Rattle.sound.specs.Sound as Sound
+use Rattle.rules.specs.declared.Command.{Command}
+use Rattle.rules.specs.Schedule.{commandOf}
+use Rattle.entry.specs.Entry.{Enters}
 use Rattle.renaming.specs.Entries.{Steps, Runs, Drains}
 use Rattle.lines.specs.Lines.{inputText, ranText, drainedText, blockedText, counterText, valueText, registerText, Puts}
 use Rattle.report.specs.Report.{Reports, Shows}
@@ -118,4 +121,6 @@ pub record OneAnswers : Type 0 where
   pub fillRegisters : (rf : List Register) (t : Tag) (v : Value) → OneAnswer (λ (r′ : List Register). r′ ≡ fillRegs t v rf)
   pub readRegister : (rf : List Register) (r : Reg) → OneAnswer (λ (r′ : Operand). r′ ≡ contents rf r)
   pub writeRegister : (rf : List Register) (r : Reg) (o : Operand) → OneAnswer (λ (r′ : List Register). r′ ≡ put rf r o)
+  pub enter : (p b : List ℕ) (s : State) → OneAnswer (Enters p b s)
+  pub readCommand : (rule place tag last : ℕ) → OneAnswer (λ (r′ : Command). r′ ≡ commandOf rule place tag last)
   pub isSound : (s : State) (instructions : ℕ) → OneAnswer (λ (r′ : Bool). r′ ≡ Sound.isSound instructions s)

@@ -2,7 +2,7 @@
 use Prim.Native.Nat.{ℕ, zero, suc, _+_, _≤_, _<_}
 use native.Mathlib.Decide.{decLt}
 use native.Mathlib.Omega.{arith}
-use mathlib.Core.Path.{_≡_, refl, sym, ap, _∙_}
+use mathlib.Core.Path.{_≡_, refl, sym, ap, _∙_, subst}
 use mathlib.Core.Logic.{_≢_}
 use mathlib.Core.List.{List, [], _∷_}
 use lib.ListN.{length, take}
@@ -48,13 +48,15 @@ module _ (prog : List Instr) where
         to-the-end = λ _. refl;
         cut-short = λ l. absurd (omega arith);
       }
-  further (c ∷ cs) n k σ m = first (obey prog c σ m) refl (obey-numbered prog σ m c) (λ σ′ m′. further cs (n + 1) (counted c k) σ′ m′)
+  further (c ∷ cs) n k σ m = first _ (λ why. refl) (obey prog c σ m) refl (obey-numbered prog σ m c) (λ σ′ m′. further cs (n + 1) (counted c k) σ′ m′)
     where
-      first : (r : Step) → obey prog c σ m ≡ r → Numbered r
+      -- a refused record leaves the counts, the machine and memory as they were
+      first : (here : ℕ → End) → ((why : ℕ) → here why ≡ record { accepted = n; issued = k; refusal = why; machine = σ; memory = m })
+          → (r : Step) → obey prog c σ m ≡ r → Numbered r
           → ((σ′ : Mach) (m′ : List Value) → Further prog cs (n + 1) (counted c k) σ′ m′ (runFrom prog cs (n + 1) (counted c k) σ′ m′))
           → Further prog (c ∷ cs) n k σ m
-          (proceed (λ σ′ m′. runFrom prog cs (n + 1) (counted c k) σ′ m′) (λ why. record { accepted = n; issued = k; refusal = why; machine = σ; memory = m }) r)
-      first (accepted σ′ m′) e d rest =
+          (proceed (λ σ′ m′. runFrom prog cs (n + 1) (counted c k) σ′ m′) here r)
+      first here same (accepted σ′ m′) e d rest =
           let f = rest σ′ m′ in
           record {
             more = suc (f .more);
@@ -71,8 +73,9 @@ module _ (prog : List Instr) where
               → obeyed prog (take i (c ∷ cs)) σ m ≡ refused (runFrom prog cs (n + 1) (counted c k) σ′ m′ .refusal)
           longer f zero l h = absurd (omega arith)
           longer f (suc i) l h = rw e (f .longest i (omega arith) (omega arith))
-      first (refused why) e d rest =
-          record {
+      first here same (refused why) e d rest =
+          subst (Further prog (c ∷ cs) n k σ m) (sym (same why))
+          (record {
             more = 0;
             sum = omega arith;
             within = omega arith;
@@ -81,7 +84,7 @@ module _ (prog : List Instr) where
             longest = longer;
             to-the-end = λ q. absurd (omega arith);
             cut-short = λ _. d;
-          }
+          })
         where
           longer : (i : ℕ) → 0 < i → i ≤ suc (length cs) → obeyed prog (take i (c ∷ cs)) σ m ≡ refused why
           longer zero l h = absurd (omega arith)

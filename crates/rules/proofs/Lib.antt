@@ -6,7 +6,7 @@ pub mod Filling
 pub mod Removing
 pub mod Keeping
 pub mod Numbered
-pub mod Looping
+pub mod Staying
 pub mod Due
 pub mod Oldest
 pub mod Accepted

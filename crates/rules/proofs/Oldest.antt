@@ -114,12 +114,12 @@ module _ (σ : Mach) (m : List Value) where
       which : (v : Move) → Dec (v .place < p) → Refused (move v σ m)
       which v (yes b) = l v b
       which v (no b) = outside v (omega arith)
-  find (suc n) p e l = try (firstOf rules p σ m) (chosen p) (λ h. find n (suc p) (omega arith) (later p l h))
+  find (suc n) p e l = try (firstOf rules p σ m) (seek n (suc p) σ m) (chosen p) (λ h. find n (suc p) (omega arith) (later p l h))
     where
-      try : (s : Step) → Chosen p s → (((r : Rule) → Refused (apply r p σ m)) → Found (seek n (suc p) σ m)) → Found (first s (seek n (suc p) σ m))
-      try (accepted σ′ m′) c rest =
+      try : (s behind : Step) → Chosen p s → (((r : Rule) → Refused (apply r p σ m)) → Found behind) → Found (first s behind)
+      try (accepted σ′ m′) behind c rest =
           (record { rule = c .0; place = p }, c .1, record { place = l; rule = λ u here q. rw here (c .2 (u .rule) q) })
-      try (refused k) c rest = rest c
+      try (refused k) behind c rest = rest c
 
   pub found : Found (oldest σ m)
   unfolding oldest
