@@ -16,9 +16,9 @@ use Rattle.records.proofs.Tabulate.{length-records}
 use Rattle.records.proofs.Leading.{Whole, scan-says, record-within}
 use Rattle.isa.specs.declared.InstrAddr.{InstrAddr}
 use Rattle.isa.specs.declared.Instr.{Instr}
-use Rattle.isa.specs.Instruction.{isFormed, parse}
-use Rattle.isa.proofs.RoundTrip.{record-parsed}
-use Rattle.isa.specs.Program.{leads, instructions, program, isGot, isInstr, scanOf, parsed, fetched, present}
+use Rattle.isa.specs.Instruction.{isFormed, parse, spelled}
+use Rattle.isa.proofs.RoundTrip.{record-parsed, record-spells}
+use Rattle.isa.specs.Program.{leads, instructions, program, isGot, isInstr, scanOf, parsed, fetched, spelling, decoded, present}
 
 -- m records behind a first one, of which k are well formed
 module _ (m k : ℕ) (is : List Instr) where
@@ -44,6 +44,15 @@ instruction-at (r ∷ rs) h zero = first (length rs) (leading isInstr rs) (instr
 instruction-at (r ∷ rs) h (suc a) =
     instruction-at rs (rest (length rs) (leading isInstr rs) (instructions rs) (parse r) h) a
     ∙ later (length rs) (leading isInstr rs) (instructions rs) (parse r) h a
+
+spells : (r : Record) (m k : ℕ) (t : Try Instr) → parse r ≡ t → suc m ≤ cond (isGot t) (suc k) 0 → got (spelled r) ≡ t
+spells r m k (got i) e h = ap got (record-spells r i e)
+spells r m k (fails n) e h = absurd (omega arith)
+
+spelling-at : (rs : List Record) → length rs ≤ leading isInstr rs → (a : ℕ) → spelling (getElem? rs a) ≡ parsed (getElem? rs a)
+spelling-at [] h a = refl
+spelling-at (r ∷ rs) h zero = spells r (length rs) (leading isInstr rs) (parse r) refl h
+spelling-at (r ∷ rs) h (suc a) = spelling-at rs (rest (length rs) (leading isInstr rs) (instructions rs) (parse r) h) a
 
 length-instructions : (rs : List Record) → length rs ≤ leading isInstr rs → length (instructions rs) ≡ length rs
 length-instructions [] h = refl
@@ -75,3 +84,8 @@ module _ (p : List ℕ) (e : scanOf p ≡ accepted) where
           let few = program-whole .few in
           (omega arith, record-parsed r i h .formed)
       at none g h = got-not-fails h
+
+  -- so its form need not be judged again
+  pub decoded-fetched : (a : InstrAddr) → decoded p a ≡ fetched p a
+  unfolding decoded fetched
+  decoded-fetched a = spelling-at (records p) (program-whole .formed) (a .0)

@@ -14,7 +14,7 @@ use Rattle.records.specs.Records.{records, bytes}
 use Rattle.records.specs.Scan.{scanned}
 use Rattle.isa.specs.declared.InstrAddr.{InstrAddr}
 use Rattle.isa.specs.declared.Instr.{Instr}
-use Rattle.isa.specs.Instruction.{isFormed, parse, recordOf}
+use Rattle.isa.specs.Instruction.{isFormed, parse, spelled, recordOf}
 
 -- the first of the instructions and the rest, as far as records are well formed
 abbrev pub leads : Try Instr → List Instr → List Instr
@@ -47,6 +47,14 @@ parsed none = fails noInstruction
 
 unfoldable pub fetched : List ℕ → InstrAddr → Try Instr
 fetched b a = parsed (getElem? (records b) (a .0))
+
+-- what the record at an address spells, which in a well-formed program is the same
+abbrev pub spelling : Option Record → Try Instr
+spelling (some r) = got (spelled r)
+spelling none = fails noInstruction
+
+unfoldable pub decoded : List ℕ → InstrAddr → Try Instr
+decoded b a = spelling (getElem? (records b) (a .0))
 
 -- the instruction at an address of a well-formed program, if there is one
 abbrev pub present : Option Instr → Try Instr

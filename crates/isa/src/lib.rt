@@ -2,8 +2,8 @@
 ghost use mathlib.Core.Path.{_≡_};
 ghost use Rattle.records.specs.Records.{records};
 ghost use Rattle.records.specs.Scan.{leading};
-ghost use Rattle.isa.specs.Instruction.{isFormed, ifFormed, parse, answer, readOf, recordOf};
-ghost use Rattle.isa.specs.Program.{fetched, isInstr, scanOf, Wrote};
+ghost use Rattle.isa.specs.Instruction.{isFormed, ifFormed, parse, spelled, answer, readOf, recordOf};
+ghost use Rattle.isa.specs.Program.{fetched, decoded, isInstr, scanOf, Wrote};
 use records::Found;
 use records::Record;
 use records::Verdict;
@@ -111,6 +111,32 @@ pub fn fetch(program: &[u8], at: InstrAddr) -> Reading
 {
     match records::read(program, at.0 as usize) {
         Found::Is(r) => parse(r),
+        Found::Nothing => Reading::Refused(refusal::NO_INSTRUCTION),
+    }
+}
+
+// What the fields spell, judged by nothing: a code that is none is taken for 6.
+fn spelled(r: Record) -> Instr
+    ensures { λ i. ⌜ i ≡ spelled r ⌝ }
+{
+    let code = r.b0;
+    let k = r.word;
+    match code {
+        1 => Instr::Loadc(Reg(r.b1), k),
+        2 => Instr::Loadpc(Reg(r.b1)),
+        3 => Instr::Op(Reg(r.b1), (k % 256) as u8, Reg(r.b2), Reg(r.b3)),
+        4 => Instr::Jz(Reg(r.b2), Reg(r.b3)),
+        5 => Instr::Load(Reg(r.b1), Reg(r.b2)),
+        _ => Instr::Store(Reg(r.b2), Reg(r.b3)),
+    }
+}
+
+// The instruction at an address of a program that was scanned: its form is not judged again.
+pub fn decode(program: &[u8], at: InstrAddr) -> Reading
+    ensures { λ r. ⌜ r ≡ answer (decoded (now (program .entry)) at) ⌝ }
+{
+    match records::read(program, at.0 as usize) {
+        Found::Is(r) => Reading::Is(spelled(r)),
         Found::Nothing => Reading::Refused(refusal::NO_INSTRUCTION),
     }
 }
