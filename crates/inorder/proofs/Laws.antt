@@ -12,7 +12,7 @@ use Rattle.isa.specs.declared.Instr.{Instr}
 use Rattle.kernel.specs.Kernel.{Run, going, stopped}
 use Rattle.inorder.specs.declared.Register.{Register}
 use Rattle.inorder.specs.declared.InOrder.{InOrder}
-use Rattle.inorder.specs.Machine.{machine, step, steps, once, after, memory}
+use Rattle.inorder.specs.Machine.{machine, with, step, steps, once, after, memory}
 use Rattle.inorder.specs.Entries.{End, proceed, runFrom, thenRun}
 use Rattle.inorder.proofs.Stops.{Stops, once-stops}
 
@@ -34,7 +34,7 @@ module _ (prog : List Instr) where
   then-proceed : (k : ℕ) (f g : InOrder → List Value → End) (s : InOrder) (n : ℕ) (a : InstrAddr) (m : List Value)
       → ((s′ : InOrder) (m′ : List Value) → f s′ m′ ≡ thenRun prog k (g s′ m′)) → (t : Run (List Register)) → Stops a m t
       → proceed f s n t ≡ thenRun prog k (proceed g s n t)
-  then-proceed k f g s n a m h (going rf ia m′) w = h (machine ia rf) m′
+  then-proceed k f g s n a m h (going rf ia m′) w = h (with s ia rf) m′
   then-proceed k f g s n a m h (stopped ia why m′) w = rw (ne-eqb why 0 (w .0)) refl
 
   pub run-adds : (a b : ℕ) (s : InOrder) (n : ℕ) (m : List Value) → runFrom prog (a + b) s n m ≡ thenRun prog b (runFrom prog a s n m)
@@ -68,7 +68,7 @@ module _ (prog : List Instr) where
     after-first : (t : Run (List Register)) → Stops (s .counter) m t
         → ((s′ : InOrder) (m′ : List Value) → CameTo (n + 1) k (runFrom prog k s′ (n + 1) m′) (steps prog k (going (s′ .registers) (s′ .counter) m′)))
         → CameTo n (suc k) (proceed (λ s′ m′. runFrom prog k s′ (n + 1) m′) s n t) (steps prog k t)
-    after-first (going rf ia m′) w h = one-more n k (runFrom prog k (machine ia rf) (n + 1) m′) (steps prog k (going rf ia m′)) (h (machine ia rf) m′)
+    after-first (going rf ia m′) w h = one-more n k (runFrom prog k (with s ia rf) (n + 1) m′) (steps prog k (going rf ia m′)) (h (with s ia rf) m′)
     after-first (stopped ia why m′) w h = rw (stays k ia why m′) (sym (w .1), refl, refl, omega arith)
 
   pub run-is-steps : (k : ℕ) (s : InOrder) (n : ℕ) (m : List Value) → CameTo n k (runFrom prog k s n m) (steps prog k (going (s .registers) (s .counter) m))

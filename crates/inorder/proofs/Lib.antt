@@ -1,6 +1,6 @@
 -- Laws that belong to no one function.
 pub mod Stops
-pub mod Storing
+pub mod Doing
 pub mod Running
 pub mod Entering
 pub mod Laws

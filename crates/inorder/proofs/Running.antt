@@ -1,42 +1,92 @@
--- A run is its steps.
-use mathlib.Core.Path.{_≡_, refl, sym, ap, ap₂, _∙_}
-use mathlib.Core.Logic.{_≢_}
+-- A turn of the run's loop is a step of the machine.
+use mathlib.Core.Path.{_≡_, refl, sym, ap, ap₂, subst, _∙_}
 use Prim.Native.Nat.{ℕ, suc, _+_, _-_, _<_, _≤_}
 use native.Mathlib.Omega.{arith}
+use mathlib.Core.Bool.{true}
 use mathlib.Core.List.{List}
 use lib.ListN.{length}
+use Rattle.records.specs.Scan.{accepted}
+use Rattle.records.specs.Try.{got}
 use Rattle.value.specs.declared.Value.{Value}
 use Rattle.isa.specs.declared.InstrAddr.{InstrAddr}
+use Rattle.isa.specs.declared.Reg.{Reg}
 use Rattle.isa.specs.declared.Instr.{Instr}
-use Rattle.isa.specs.Program.{program}
+use Rattle.isa.specs.declared.Reading.{Reading}
+use Rattle.isa.specs.declared.Reading.the-variants.{Is, Refused}
+use Rattle.isa.specs.Instruction.{isFormed, answer}
+use Rattle.isa.specs.Program.{program, scanOf, fetched, decoded}
+use Rattle.isa.proofs.Answers.{reading-is, reading-no}
+use Rattle.isa.proofs.Programs.{fetched-program, fetched-inside, decoded-fetched}
 use Rattle.cells.specs.Cells.{cells, Formed}
-use Rattle.kernel.specs.Kernel.{Run, going, stopped}
+use Rattle.kernel.specs.Kernel.{next, Run, going, stopped}
 use Rattle.inorder.specs.declared.Register.{Register}
 use Rattle.inorder.specs.declared.InOrder.{InOrder}
-use Rattle.inorder.specs.declared.Stepped.{Stepped}
-use Rattle.inorder.specs.Machine.{machine, once, Does}
+use Rattle.inorder.specs.declared.effect.Effect.{Effect}
+use Rattle.inorder.specs.declared.effect.Effect.the-variants as Effect
+use Rattle.inorder.specs.declared.effect.OperandPair.{OperandPair}
+use Rattle.inorder.specs.Machine.{held, put, with, step, once}
 use Rattle.inorder.specs.Entries.{End, proceed, runFrom, ended, Goes}
-use Rattle.inorder.proofs.Stops.{Stops, once-stops}
+use Rattle.inorder.specs.Effects.{operands, effect, left, enacted, Performs}
+use Rattle.inorder.proofs.Doing.{perform-enacts, operands-in-range, InRange, effect-in-range}
 
--- what the code's step says of the run
-module _ (rest : InOrder → List Value → End) (s : InOrder) (n : ℕ) {b b′ : List ℕ} {r : Stepped} where
-  went : (a : InstrAddr) (m : List Value) (t : Run (List Register)) → Stops a m t → Does s t b r b′ → r .stop ≡ 0 → proceed rest s n t ≡ rest (r .machine) (cells b′)
-  went a m (going rf ia m′) h d e = ap₂ rest (sym (ap (λ (x : Stepped). x .machine) (d .answer))) (sym (d .holds))
-  went a m (stopped ia k m′) h d e = absurd (h .0 (sym (ap (λ (x : Stepped). x .stop) (d .answer)) ∙ e))
+-- ---- a step
 
-  halted : (t : Run (List Register)) → Does s t b r b′ → r .stop ≢ 0 → proceed rest s n t ≡ record { machine = s; executed = n; stop = r .stop; memory = cells b′ }
-  halted (going rf ia m′) d e = absurd (e (ap (λ (x : Stepped). x .stop) (d .answer)))
-  halted (stopped ia k m′) d e =
-      λ i. record { machine = s; executed = n; stop = sym (ap (λ (x : Stepped). x .stop) (d .answer)) i; memory = sym (d .holds) i }
+-- what an instruction's effect e and memory b′ say of the step of the machine s
+pub record Turn (p : List ℕ) (s : InOrder) (b : List ℕ) (e : Effect) (b′ : List ℕ) : Type 0 where
+  pub does : once (program p) s (cells b) ≡ enacted (s .registers) (s .counter) (cells b′) e
+  pub formed : Formed b → Formed b′
+  pub writes : InRange e
 
-module _ (prog : List Instr) (further : ℕ) (s : InOrder) (n : ℕ) (m : List Value) {b b′ : List ℕ} {r : Stepped} (d : Does s (once prog s m) b r b′) where
-  pub run-goes : r .stop ≡ 0 → runFrom prog (suc further) s n m ≡ runFrom prog further (r .machine) (n + 1) (cells b′)
-  unfolding runFrom
-  run-goes e = went (λ s′ m′. runFrom prog further s′ (n + 1) m′) s n (s .counter) m (once prog s m) (once-stops prog s m) d e
+module _ (p : List ℕ) (pre : scanOf p ≡ accepted) (s : InOrder) {r : Reading} (f : r ≡ answer (decoded p (s .counter))) where
+  pub no-instruction : {why : ℕ} → r ≡ Refused why → (m : List Value) → once (program p) s m ≡ stopped (s .counter) why m
+  unfolding step
+  no-instruction g m =
+      let no = sym (fetched-program p pre (s .counter)) ∙ sym (decoded-fetched p pre (s .counter)) ∙ reading-no (decoded p (s .counter)) f g in
+      rw no refl
 
-  pub run-halts : r .stop ≢ 0 → runFrom prog (suc further) s n m ≡ record { machine = s; executed = n; stop = r .stop; memory = cells b′ }
-  unfolding runFrom
-  run-halts e = halted (λ s′ m′. runFrom prog further s′ (n + 1) m′) s n (once prog s m) d e
+  module _ {i : Instr} (g : r ≡ Is i) where
+    found : fetched p (s .counter) ≡ got i
+    found = sym (decoded-fetched p pre (s .counter)) ∙ reading-is (decoded p (s .counter)) f g
+
+    pub inside : s .counter .0 < 1024
+    inside = fetched-inside p pre (s .counter) i found .0
+
+    formed : isFormed i ≡ true
+    formed = fetched-inside p pre (s .counter) i found .1
+
+    module _ {o : OperandPair} (q : o ≡ operands i) where
+      pub reads-first : o .first .0 < 32
+      reads-first = rw q (operands-in-range i formed .0)
+
+      pub reads-second : o .second .0 < 32
+      reads-second = rw q (operands-in-range i formed .1)
+
+      abbrev x : Value
+      x = held (s .registers) (o .first)
+
+      abbrev y : Value
+      y = held (s .registers) (o .second)
+
+      -- what is enacted with these operands
+      abbrev with-operands : List ℕ → OperandPair → Run (List Register)
+      with-operands b k =
+          let u = held (s .registers) (k .first) in
+          let v = held (s .registers) (k .second) in
+          enacted (s .registers) (s .counter) (left i u v (cells b)) (effect i (s .counter) u v (cells b))
+
+      pub turn : {b b′ : List ℕ} {e : Effect} → Performs i (s .counter) x y b e b′ → Turn p s b e b′
+      unfolding step
+      turn {b} {b′} {e} d =
+          let there = sym (fetched-program p pre (s .counter)) ∙ found in
+          record {
+            does =
+                rw there
+                (perform-enacts (s .registers) (s .counter) (cells b) i
+                ∙ ap (with-operands b) (sym q)
+                ∙ ap₂ (enacted (s .registers) (s .counter)) (sym (d .holds)) (sym (d .answer)));
+            formed = d .formed;
+            writes = subst InRange (sym (d .answer)) (effect-in-range (s .counter) x y (cells b) i formed);
+          }
 
 -- ---- the loop of a run
 
@@ -54,31 +104,43 @@ module _ (p : List ℕ) (s : InOrder) (b : List ℕ) (budget : ℕ) where
       record { rest = rw all refl; below = omega arith; long = refl; formed = λ f. f }
 
 module _ {p : List ℕ} {s₀ : InOrder} {b₀ : List ℕ} {budget : ℕ} {s : InOrder} {b : List ℕ} {n : ℕ} (l : Left p s₀ b₀ budget s b n) where
-  -- one step of what is left
-  one : n < budget → budget - n ≡ suc (budget - (n + 1))
-  one h = omega arith
+  module _ (h : n < budget) {b′ : List ℕ} (form : Formed b → Formed b′) where
+    -- what is left is a step and the rest
+    first : {t : Run (List Register)} → once (program p) s (cells b) ≡ t
+        → proceed (λ s′ m′. runFrom (program p) (budget - (n + 1)) s′ (n + 1) m′) s n t ≡ runFrom (program p) budget s₀ 0 (cells b₀)
+    unfolding runFrom
+    first e =
+        let one : suc (budget - (n + 1)) ≡ budget - n = omega arith in
+        ap (proceed (λ s′ m′. runFrom (program p) (budget - (n + 1)) s′ (n + 1) m′) s n) (sym e)
+        ∙ ap (λ (k : ℕ). runFrom (program p) k s n (cells b)) one
+        ∙ l .rest
 
-  module _ (h : n < budget) {r : Stepped} {b′ : List ℕ} (d : Does s (once (program p) s (cells b)) b r b′) where
-    pub run-again : r .stop ≡ 0 → length b′ ≡ length b → Left p s₀ b₀ budget (r .machine) b′ (n + 1)
-    run-again e long =
-        record {
-          rest =
-              sym (run-goes (program p) (budget - (n + 1)) s n (cells b) d e)
-              ∙ ap (λ (k : ℕ). runFrom (program p) k s n (cells b)) (sym (one h))
-              ∙ l .rest;
-          below = omega arith;
-          long = long ∙ l .long;
-          formed = λ f. d .formed (l .formed f);
-        }
+    again : {rf : List Register} {ia : InstrAddr} → once (program p) s (cells b) ≡ going rf ia (cells b′) → length b′ ≡ length b
+        → Left p s₀ b₀ budget (with s ia rf) b′ (n + 1)
+    again e long = record { rest = first e; below = omega arith; long = long ∙ l .long; formed = λ f. form (l .formed f) }
 
-    pub run-stops : r .stop ≢ 0 → Goes p s₀ b₀ budget (record { machine = s; executed = n; stop = r .stop; number = 0 }) b′
+    pub run-stops : {ia : InstrAddr} {why : ℕ} → once (program p) s (cells b) ≡ stopped ia why (cells b′)
+        → Goes p s₀ b₀ budget (record { machine = s; executed = n; stop = why; number = 0 }) b′
     run-stops e =
-        let whole = sym (run-halts (program p) (budget - (n + 1)) s n (cells b) d e) ∙ ap (λ (k : ℕ). runFrom (program p) k s n (cells b)) (sym (one h)) ∙ l .rest in
-        record {
-          answer = ap ended whole;
-          holds = ap (λ (x : End). x .memory) whole;
-          formed = λ f. d .formed (l .formed f);
-        }
+        let whole = first e in
+        record { answer = ap ended whole; holds = ap (λ (x : End). x .memory) whole; formed = λ f. form (l .formed f) }
+
+  module _ (h : n < budget) {b′ : List ℕ} {e : Effect} (t : Turn p s b e b′) where
+    does : {e′ : Effect} → e ≡ e′ → once (program p) s (cells b) ≡ enacted (s .registers) (s .counter) (cells b′) e′
+    does q = t .does ∙ ap (enacted (s .registers) (s .counter) (cells b′)) q
+
+    pub goes-on : {to : InstrAddr} → e ≡ Effect.Goes to → length b′ ≡ length b → Left p s₀ b₀ budget (with s to (s .registers)) b′ (n + 1)
+    goes-on q = again h (t .formed) (does q)
+
+    pub puts-on : {r : Reg} {v : Value} → e ≡ Effect.Puts r v → length b′ ≡ length b
+        → Left p s₀ b₀ budget (with s (next (s .counter)) (put (s .registers) r v)) b′ (n + 1)
+    puts-on q = again h (t .formed) (does q)
+
+    pub stops-at : {why : ℕ} → e ≡ Effect.Stops why → Goes p s₀ b₀ budget (record { machine = s; executed = n; stop = why; number = 0 }) b′
+    stops-at q = run-stops h (t .formed) (does q)
+
+    pub writes-one : {r : Reg} {v : Value} → e ≡ Effect.Puts r v → r .0 < 32
+    writes-one q = subst InRange q (t .writes)
 
   pub run-ends : budget ≤ n → Goes p s₀ b₀ budget (record { machine = s; executed = n; stop = 0; number = 0 }) b
   unfolding runFrom

@@ -4,6 +4,7 @@ use Prim.Native.Nat.{ℕ, zero, suc, _+_}
 use mathlib.Core.Bool.{cond}
 use mathlib.Core.List.{List}
 use lib.Dec.{eqb}
+use Rattle.records.specs.declared.Verdict.{Verdict}
 use Rattle.value.specs.declared.Value.{Value}
 use Rattle.isa.specs.declared.Instr.{Instr}
 use Rattle.isa.specs.Program.{program}
@@ -14,25 +15,25 @@ use Rattle.inorder.specs.declared.Register.{Register}
 use Rattle.inorder.specs.declared.InOrder.{InOrder}
 use Rattle.inorder.specs.declared.Stepped.{Stepped}
 use Rattle.inorder.specs.declared.Ran.{Ran}
-use Rattle.inorder.specs.Machine.{machine, once, after, memory, Does}
+use Rattle.inorder.specs.Machine.{with, once, after, memory}
+
+-- refusals 1 to 3 of a program and a memory; a machine is never refused
+abbrev pub entered : List ℕ → List ℕ → InOrder → Verdict
+entered p b s = checked p b
 
 -- ---- step
 
 unfoldable pub stepped : List ℕ → InOrder → List ℕ → Stepped
 stepped p s b =
-    let v = checked p b in
+    let v = entered p b s in
     ifChecked v (after s (once (program p) s (cells b))) (record { machine = s; stop = v .refusal; number = v .number })
 
 unfoldable pub steppedMemory : List ℕ → InOrder → List ℕ → List ℕ
-steppedMemory p s b = ifChecked (checked p b) (image (memory (once (program p) s (cells b)))) b
+steppedMemory p s b = ifChecked (entered p b s) (image (memory (once (program p) s (cells b)))) b
 
 pub record Steps (p : List ℕ) (s : InOrder) (b : List ℕ) (r : Stepped) (b′ : List ℕ) : Type 0 where
   pub answer : r ≡ stepped p s b
   pub bytes : b′ ≡ steppedMemory p s b
-
--- the same of a program and a memory that were checked
-abbrev pub Advances : List ℕ → InOrder → List ℕ → Stepped → List ℕ → Type 0
-Advances p s b r b′ = Does s (once (program p) s (cells b)) b r b′
 
 -- ---- run
 
@@ -45,7 +46,7 @@ pub record End : Type 0 where
 
 -- the rest of a run, unless the step stopped
 abbrev pub proceed : (InOrder → List Value → End) → InOrder → ℕ → Run (List Register) → End
-proceed rest s n (going rf ia m) = rest (machine ia rf) m
+proceed rest s n (going rf ia m) = rest (with s ia rf) m
 proceed rest s n (stopped ia why m) = record { machine = s; executed = n; stop = why; memory = m }
 
 -- at most so many further instructions, after n that were executed
@@ -62,12 +63,12 @@ ended e = record { machine = e .machine; executed = e .executed; stop = e .stop;
 
 unfoldable pub ran : List ℕ → InOrder → List ℕ → ℕ → Ran
 ran p s b budget =
-    let v = checked p b in
+    let v = entered p b s in
     ifChecked v (ended (runFrom (program p) budget s 0 (cells b)))
     (record { machine = s; executed = 0; stop = v .refusal; number = v .number })
 
 unfoldable pub ranMemory : List ℕ → InOrder → List ℕ → ℕ → List ℕ
-ranMemory p s b budget = ifChecked (checked p b) (image (runFrom (program p) budget s 0 (cells b) .memory)) b
+ranMemory p s b budget = ifChecked (entered p b s) (image (runFrom (program p) budget s 0 (cells b) .memory)) b
 
 pub record Runs (p : List ℕ) (s : InOrder) (b : List ℕ) (budget : ℕ) (r : Ran) (b′ : List ℕ) : Type 0 where
   pub answer : r ≡ ran p s b budget

@@ -1,5 +1,4 @@
 -- The in-order machine: the rules of the memo's section 4.
-use mathlib.Core.Path.{_≡_}
 use Prim.Native.Nat.{ℕ, zero, suc}
 use mathlib.Core.List.{List}
 use lib.ListN.{getD, set, replicate, getElem?}
@@ -13,7 +12,6 @@ use Rattle.isa.specs.declared.Instr.{Instr}
 use Rattle.isa.specs.declared.Instr.the-variants.{Loadc, Loadpc, Op, Jz, Load, Store}
 use Rattle.isa.specs.Instruction.{registers}
 use Rattle.isa.specs.Program.{present}
-use Rattle.cells.specs.Cells.{cells, Formed}
 use Rattle.kernel.specs.Kernel.{instrAddr, next, readAt, writeAt, branch, Run, going, stopped, attempt}
 use Rattle.inorder.specs.declared.Register.{Register}
 use Rattle.inorder.specs.declared.InOrder.{InOrder}
@@ -50,6 +48,10 @@ execute rf ia m i = attempt ia m (perform rf ia m) i
 abbrev pub machine : InstrAddr → List Register → InOrder
 machine ia rf = record { counter = ia; registers = rf }
 
+-- the machine s with another counter and other registers
+abbrev pub with : InOrder → InstrAddr → List Register → InOrder
+with s ia rf = machine ia rf
+
 abbrev pub start : InOrder
 start = machine (instrAddr 0) (replicate registers (register Undefined))
 
@@ -67,35 +69,11 @@ steps prog (suc n) t = steps prog n (step prog t)
 abbrev pub once : List Instr → InOrder → List Value → Run (List Register)
 once prog s m = step prog (going (s .registers) (s .counter) m)
 
--- ---- what the code answers
-
-abbrev pub moved : InOrder → InstrAddr → Stepped
-moved s ia = record { machine = machine ia (s .registers); stop = 0; number = 0 }
-
-abbrev pub halted : InOrder → ℕ → Stepped
-halted s n = record { machine = s; stop = n; number = 0 }
-
 -- the machine moved on, or stopped as it was
 abbrev pub after : InOrder → Run (List Register) → Stepped
-after s (going rf ia m) = moved (machine ia rf) ia
-after s (stopped ia n m) = halted s n
+after s (going rf ia m) = record { machine = with s ia rf; stop = 0; number = 0 }
+after s (stopped ia n m) = record { machine = s; stop = n; number = 0 }
 
 abbrev pub memory : {E : Type 0} → Run E → List Value
 memory (going e ia m) = m
 memory (stopped ia n m) = m
-
--- the three rules that may stop, of the machine s with operands that were read
-abbrev pub jumps : InOrder → List Value → Value → Value → Run (List Register)
-jumps s m c to = attempt (s .counter) m (λ ia. going (s .registers) ia m) (branch (s .counter) c to)
-
-abbrev pub loads : InOrder → List Value → Reg → Value → Run (List Register)
-loads s m r a = attempt (s .counter) m (λ v. going (put (s .registers) r v) (next (s .counter)) m) (readAt m a)
-
-abbrev pub stores : InOrder → List Value → Value → Value → Run (List Register)
-stores s m a v = attempt (s .counter) m (λ m′. going (s .registers) (next (s .counter)) m′) (writeAt m a v)
-
--- r and memory b′ are what a run of the machine s on memory b came to
-pub record Does (s : InOrder) (t : Run (List Register)) (b : List ℕ) (r : Stepped) (b′ : List ℕ) : Type 0 where
-  pub answer : r ≡ after s t
-  pub holds : cells b′ ≡ memory t
-  pub formed : Formed b → Formed b′
