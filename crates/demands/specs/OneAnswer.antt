@@ -21,7 +21,7 @@ use Rattle.isa.specs.declared.Reading.{Reading}
 use Rattle.isa.specs.Instruction.{readOf}
 use Rattle.isa.specs.Instruction as Instruction
 use Rattle.isa.specs.declared.Instr.{Instr}
-use Rattle.isa.specs.Program.{Wrote, fetched}
+use Rattle.isa.specs.Program.{Wrote, fetched, decoded}
 use Rattle.isa.specs.Program as Program
 use Rattle.cells.specs.declared.Loaded.{Loaded}
 use Rattle.cells.specs.Cells.{Stores, cells, loadFrom}
@@ -97,6 +97,7 @@ pub record OneAnswers : Type 0 where
   pub operate : (n : ℕ) (x y : Value) → OneAnswer (λ (r′ : Value). r′ ≡ result n x y)
   pub readInstruction : (b : List ℕ) → OneAnswer (λ (r′ : Reading). r′ ≡ Instruction.answer (readOf b))
   pub fetch : (p : List ℕ) (a : InstrAddr) → OneAnswer (λ (r′ : Reading). r′ ≡ Instruction.answer (fetched p a))
+  pub decode : (p : List ℕ) (a : InstrAddr) → OneAnswer (λ (r′ : Reading). r′ ≡ Instruction.answer (decoded p a))
   pub scanProgram : (p : List ℕ) → OneAnswer (λ (r′ : Verdict). r′ ≡ Program.scanOf p)
   pub scanMemory : (b : List ℕ) → OneAnswer (λ (r′ : Verdict). r′ ≡ Cells.scanOf b)
   pub load : (b : List ℕ) (a : DataAddr) → OneAnswer (λ (r′ : Loaded). r′ ≡ Cells.answer (loadFrom (cells b) a))
@@ -104,6 +105,7 @@ pub record OneAnswers : Type 0 where
   pub readAt : (b : List ℕ) (a : Value) → OneAnswer (λ (r′ : Loaded). r′ ≡ Cells.answer (Kernel.readAt (cells b) a))
   pub target : (v : Value) → OneAnswer (λ (r′ : Reached). r′ ≡ reached (Kernel.target v))
   pub inOrderStart : OneAnswer (λ (r′ : InOrder). r′ ≡ Machine.start)
+  pub inOrderEnter : (p b : List ℕ) (s : InOrder) → OneAnswer (λ (r′ : Verdict). r′ ≡ InOrder.entered p b s)
   pub start : OneAnswer (λ (r′ : State). r′ ≡ stateOf Mach.start)
   pub waitsFor : (o : Operand) (t : Tag) → OneAnswer (λ (r′ : Bool). r′ ≡ waits t o)
   pub operandAt : (w : Work) (j : ℕ) → OneAnswer (λ (r′ : Operand). r′ ≡ Templates.operandAt w j)
