@@ -4,8 +4,8 @@ use mathlib.Core.List.{List}
 use lib.ListN.{getD, set, replicate, getElem?}
 use Rattle.records.specs.Try.{Try}
 use Rattle.value.specs.declared.Value.{Value}
-use Rattle.value.specs.declared.Value.the-variants.{Undefined, Word}
-use Rattle.value.specs.Operation.{result}
+use Rattle.value.specs.declared.Value.the-variants.{Word}
+use Rattle.value.specs.Operation.{undefined, result}
 use Rattle.isa.specs.declared.InstrAddr.{InstrAddr}
 use Rattle.isa.specs.declared.Reg.{Reg}
 use Rattle.isa.specs.declared.Instr.{Instr}
@@ -23,7 +23,7 @@ abbrev pub register : Value → Register
 register v = record { value = v }
 
 abbrev pub held : List Register → Reg → Value
-held rf r = getD rf (r .0) (register Undefined) .value
+held rf r = getD rf (r .0) (register undefined) .value
 
 abbrev pub put : List Register → Reg → Value → List Register
 put rf r v = set rf (r .0) (register v)
@@ -53,7 +53,7 @@ abbrev pub with : InOrder → InstrAddr → List Register → InOrder
 with s ia rf = machine ia rf
 
 abbrev pub start : InOrder
-start = machine (instrAddr 0) (replicate registers (register Undefined))
+start = machine (instrAddr 0) (replicate registers (register undefined))
 
 -- a program's step; a run that stopped stays stopped
 unfoldable pub step : List Instr → Run (List Register) → Run (List Register)

@@ -8,6 +8,7 @@ ghost use Rattle.inorder.specs.Machine.{start};
 ghost use Rattle.inorder.specs.Entries.{entered, Steps, Runs, Goes};
 use effect::Effect;
 use isa::InstrAddr;
+use isa::REGISTERS;
 use isa::Reading;
 use records::Verdict;
 use value::Value;
@@ -18,7 +19,7 @@ pub struct Register {
 
 pub struct InOrder {
     pub counter: InstrAddr,
-    pub registers: [Register; 32],
+    pub registers: [Register; REGISTERS],
 }
 
 // The machine after a step, the stop, 0 if there is none, and the record number of 2 and 3.
@@ -43,8 +44,8 @@ impl InOrder {
         InOrder {
             counter: InstrAddr(0),
             registers: [Register {
-                value: Value::Undefined,
-            }; 32],
+                value: value::UNDEFINED,
+            }; REGISTERS],
         }
     }
 

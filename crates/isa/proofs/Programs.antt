@@ -45,8 +45,8 @@ instruction-at (r ∷ rs) h (suc a) =
     instruction-at rs (rest (length rs) (leading isInstr rs) (instructions rs) (parse r) h) a
     ∙ later (length rs) (leading isInstr rs) (instructions rs) (parse r) h a
 
-spells : (r : Record) (m k : ℕ) (t : Try Instr) → parse r ≡ t → suc m ≤ cond (isGot t) (suc k) 0 → got (spelled r) ≡ t
-spells r m k (got i) e h = ap got (record-spells r i e)
+spells : (r : Record) (m k : ℕ) (t : Try Instr) → parse r ≡ t → suc m ≤ cond (isGot t) (suc k) 0 → spelled r ≡ t
+spells r m k (got i) e h = record-spells r i e
 spells r m k (fails n) e h = absurd (omega arith)
 
 spelling-at : (rs : List Record) → length rs ≤ leading isInstr rs → (a : ℕ) → spelling (getElem? rs a) ≡ parsed (getElem? rs a)

@@ -1,12 +1,12 @@
 -- Each instruction has exactly one record: what is written is read back, and what is read is written back.
 use mathlib.Core.Path.{_≡_, refl, sym, ap, _∙_}
-use Prim.Native.Nat.{ℕ, _%_, _^_, _<_, _≤_}
+use Prim.Native.Nat.{ℕ, _%_, _^_, _<_}
 use native.Mathlib.Omega.{arith}
 use mathlib.Core.Bool.{Bool, true, false, cond, _&&_}
 use mathlib.Core.List.{List, [], _∷_, append-nil}
 use lib.Dec.{eqb, leb}
 use lib.ListN.{length, getD}
-use borrow.Author.Tests.{eqb-true, leb-true}
+use borrow.Author.Tests.{eqb-true}
 use Rattle.records.specs.declared.Record.{Record}
 use Rattle.records.specs.Refusal.{badLength, badInstruction}
 use Rattle.records.specs.Try.{Try, got, fails}
@@ -99,19 +99,17 @@ module _ (r : Record) (i : Instr) where
       got-not-fails)))))
 
 -- an instruction's record spells it
-spelled-record : (i : Instr) → isFormed i ≡ true → spelled (recordOf i) ≡ i
+spelled-record : (i : Instr) → isFormed i ≡ true → spelled (recordOf i) ≡ got i
 unfolding spelled
 spelled-record (Loadc r k) f = refl
 spelled-record (Loadpc r) f = refl
 spelled-record (Op r n r1 r2) f =
-    let small : n ≤ 4 = leb-true n 4 (both (isReg r && isReg r1 && isReg r2) (leb n lastOperation) f .1) in
-    let low : n % 256 ≡ n = omega arith in
-    ap (λ (k : ℕ). Op r k r1 r2) low
+    rw (both (isReg r && isReg r1 && isReg r2) (leb n lastOperation) f .1) refl
 spelled-record (Jz r1 r2) f = refl
 spelled-record (Load r r1) f = refl
 spelled-record (Store r1 r2) f = refl
 
-pub record-spells : (r : Record) (i : Instr) → parse r ≡ got i → spelled r ≡ i
+pub record-spells : (r : Record) (i : Instr) → parse r ≡ got i → spelled r ≡ got i
 record-spells r i e =
     let p = record-parsed r i e in
     ap spelled (sym (p .same)) ∙ spelled-record i (p .formed)

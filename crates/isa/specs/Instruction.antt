@@ -1,5 +1,5 @@
 -- The instructions and their records.
-use Prim.Native.Nat.{ℕ, _%_}
+use Prim.Native.Nat.{ℕ}
 use mathlib.Core.Bool.{Bool, true, cond, _&&_}
 use mathlib.Core.List.{List}
 use lib.Dec.{eqb, leb, ltb}
@@ -54,19 +54,20 @@ parse f =
     (cond (eqb (f .b0) 6) (ifFormed (eqb (f .b1) 0 && eqb k 0) (Store r1 r2))
     (fails badInstruction))))))
 
--- what the fields spell, whether it is well formed or not: an operation by its low byte, and a code that is none as 6
-unfoldable pub spelled : Record → Instr
+-- what the fields spell: neither registers nor unused bytes are judged, and no instruction is made of another code or operation
+unfoldable pub spelled : Record → Try Instr
 spelled f =
     let r = reg (f .b1) in
     let r1 = reg (f .b2) in
     let r2 = reg (f .b3) in
     let k = f .word in
-    cond (eqb (f .b0) 1) (Loadc r k)
-    (cond (eqb (f .b0) 2) (Loadpc r)
-    (cond (eqb (f .b0) 3) (Op r (k % 256) r1 r2)
-    (cond (eqb (f .b0) 4) (Jz r1 r2)
-    (cond (eqb (f .b0) 5) (Load r r1)
-    (Store r1 r2)))))
+    cond (eqb (f .b0) 1) (got (Loadc r k))
+    (cond (eqb (f .b0) 2) (got (Loadpc r))
+    (cond (eqb (f .b0) 3) (cond (leb k lastOperation) (got (Op r k r1 r2)) (fails badInstruction))
+    (cond (eqb (f .b0) 4) (got (Jz r1 r2))
+    (cond (eqb (f .b0) 5) (got (Load r r1))
+    (cond (eqb (f .b0) 6) (got (Store r1 r2))
+    (fails badInstruction))))))
 
 abbrev pub recordOf : Instr → Record
 recordOf (Loadc r k) = record { b0 = 1; b1 = r .0; b2 = 0; b3 = 0; word = k }

@@ -50,7 +50,7 @@ fetched b a = parsed (getElem? (records b) (a .0))
 
 -- what the record at an address spells, which in a well-formed program is the same
 abbrev pub spelling : Option Record → Try Instr
-spelling (some r) = got (spelled r)
+spelling (some r) = spelled r
 spelling none = fails noInstruction
 
 unfoldable pub decoded : List ℕ → InstrAddr → Try Instr

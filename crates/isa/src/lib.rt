@@ -9,11 +9,15 @@ use records::Record;
 use records::Verdict;
 use records::refusal;
 
-// Registers are 0 to one below this.
+// Registers are 0 to one below this, as an array's length and as a register's name.
 pub const REGISTERS: usize = 32;
 
-// Operations are 0 to this one.
+const NAMES: u8 = 32;
+
+// Operations are 0 to this one, as an instruction has it and as its record does.
 pub const LAST_OPERATION: u8 = 4;
+
+const LAST_IN_RECORD: u32 = 4;
 
 // A place in the program.
 pub struct InstrAddr(pub u32);
@@ -47,12 +51,15 @@ fn is_formed(i: Instr) -> bool
     ensures { λ r. ⌜ r ≡ isFormed i ⌝ }
 {
     match i {
-        Instr::Loadc(r, _) => r.0 < 32,
-        Instr::Loadpc(r) => r.0 < 32,
-        Instr::Op(r, op, r1, r2) => (r.0 < 32) & (r1.0 < 32) & (r2.0 < 32) & (op <= 4),
-        Instr::Jz(r1, r2) => (r1.0 < 32) & (r2.0 < 32),
-        Instr::Load(r, r1) => (r.0 < 32) & (r1.0 < 32),
-        Instr::Store(r1, r2) => (r1.0 < 32) & (r2.0 < 32),
+        Instr::Loadc(r, _) => r.0 < NAMES,
+        Instr::Loadpc(r) => r.0 < NAMES,
+        Instr::Op(r, op, r1, r2) => (r.0 < NAMES)
+            & (r1.0 < NAMES)
+            & (r2.0 < NAMES)
+            & (op <= LAST_OPERATION),
+        Instr::Jz(r1, r2) => (r1.0 < NAMES) & (r2.0 < NAMES),
+        Instr::Load(r, r1) => (r.0 < NAMES) & (r1.0 < NAMES),
+        Instr::Store(r1, r2) => (r1.0 < NAMES) & (r2.0 < NAMES),
     }
 }
 
@@ -79,7 +86,7 @@ fn parse(r: Record) -> Reading
             Instr::Loadpc(Reg(r.b1)),
         ),
         3 => {
-            if k <= 4 {
+            if k <= LAST_IN_RECORD {
                 if_formed(true, Instr::Op(Reg(r.b1), k as u8, Reg(r.b2), Reg(r.b3)))
             } else {
                 Reading::Refused(refusal::BAD_INSTRUCTION)
@@ -115,19 +122,25 @@ pub fn fetch(program: &[u8], at: InstrAddr) -> Reading
     }
 }
 
-// What the fields spell, judged by nothing: a code that is none is taken for 6.
-fn spelled(r: Record) -> Instr
-    ensures { λ i. ⌜ i ≡ spelled r ⌝ }
+// What the fields spell: neither registers nor unused bytes are judged, and no instruction is made of another code or operation.
+fn spelled(r: Record) -> Reading
+    ensures { λ a. ⌜ a ≡ answer (spelled r) ⌝ }
 {
     let code = r.b0;
     let k = r.word;
     match code {
-        1 => Instr::Loadc(Reg(r.b1), k),
-        2 => Instr::Loadpc(Reg(r.b1)),
-        3 => Instr::Op(Reg(r.b1), (k % 256) as u8, Reg(r.b2), Reg(r.b3)),
-        4 => Instr::Jz(Reg(r.b2), Reg(r.b3)),
-        5 => Instr::Load(Reg(r.b1), Reg(r.b2)),
-        _ => Instr::Store(Reg(r.b2), Reg(r.b3)),
+        1 => Reading::Is(Instr::Loadc(Reg(r.b1), k)),
+        2 => Reading::Is(Instr::Loadpc(Reg(r.b1))),
+        3 => {
+            if k > LAST_IN_RECORD {
+                return Reading::Refused(refusal::BAD_INSTRUCTION);
+            }
+            Reading::Is(Instr::Op(Reg(r.b1), k as u8, Reg(r.b2), Reg(r.b3)))
+        }
+        4 => Reading::Is(Instr::Jz(Reg(r.b2), Reg(r.b3))),
+        5 => Reading::Is(Instr::Load(Reg(r.b1), Reg(r.b2))),
+        6 => Reading::Is(Instr::Store(Reg(r.b2), Reg(r.b3))),
+        _ => Reading::Refused(refusal::BAD_INSTRUCTION),
     }
 }
 
@@ -136,7 +149,7 @@ pub fn decode(program: &[u8], at: InstrAddr) -> Reading
     ensures { λ r. ⌜ r ≡ answer (decoded (now (program .entry)) at) ⌝ }
 {
     match records::read(program, at.0 as usize) {
-        Found::Is(r) => Reading::Is(spelled(r)),
+        Found::Is(r) => spelled(r),
         Found::Nothing => Reading::Refused(refusal::NO_INSTRUCTION),
     }
 }

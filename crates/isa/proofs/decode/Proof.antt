@@ -25,7 +25,7 @@ returns : tie.Need-returns
 unfolding decoded
 returns c =
     let here = read-is (c .before .before .before .before .before .before .before .args .program .now) (c .before .before .before .before .before .before .before .args .at .0) (c .before .before .before .before .read .ensures) (c .before .before .r .given .1) in
-    rw (here, c .spelled .ensures) refl
+    rw here (c .spelled .ensures)
 
 returns-2 : tie.Need-returns-2
 unfolding decoded
