@@ -81,5 +81,7 @@ one-answers =
       writeRegister = λ rf r o. one-answer _;
       enter = λ p b s r r′ e f. one-answer _ r r′ (e .verdict) (f .verdict);
       readCommand = λ rule place tag last. one-answer _;
+      asks = λ w. one-answer _;
+      refusalAt = λ s r place b. one-answer _;
       isSound = λ s instructions. one-answer _;
     }

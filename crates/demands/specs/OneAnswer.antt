@@ -44,11 +44,13 @@ use Rattle.templates.specs.Templates.{waits, makes, fill, anyReg, fillRegs, con
 use Rattle.templates.specs.Templates as Templates
 use Rattle.templates.specs.Machine.{anyHolds, anyMakes, anyMemory}
 use Rattle.templates.specs.Machine as Mach
-use Rattle.templates.specs.Layout.{itbs, stateOf}
+use Rattle.templates.specs.Layout.{itbs, machOf, stateOf}
 use Rattle.templates.specs.Layout as Layout
 use Rattle.table.specs.Table.{among, mapFrom, removed}
 use Rattle.sound.specs.Sound as Sound
+use Rattle.rules.specs.declared.Rule.{Rule}
 use Rattle.rules.specs.declared.Command.{Command}
+use Rattle.rules.specs.Drain as Drain
 use Rattle.rules.specs.Schedule.{commandOf}
 use Rattle.entry.specs.Entry.{Enters}
 use Rattle.renaming.specs.Entries.{Steps, Runs, Drains}
@@ -125,4 +127,6 @@ pub record OneAnswers : Type 0 where
   pub writeRegister : (rf : List Register) (r : Reg) (o : Operand) → OneAnswer (λ (r′ : List Register). r′ ≡ put rf r o)
   pub enter : (p b : List ℕ) (s : State) → OneAnswer (Enters p b s)
   pub readCommand : (rule place tag last : ℕ) → OneAnswer (λ (r′ : Command). r′ ≡ commandOf rule place tag last)
+  pub asks : (w : Work) → OneAnswer (λ (r′ : Rule). r′ ≡ Drain.asks w)
+  pub refusalAt : (s : State) (r : Rule) (place : ℕ) (b : List ℕ) → OneAnswer (λ (r′ : ℕ). r′ ≡ Drain.refusalAt r place (machOf s) (cells b))
   pub isSound : (s : State) (instructions : ℕ) → OneAnswer (λ (r′ : Bool). r′ ≡ Sound.isSound instructions s)

@@ -2,57 +2,39 @@
 use mathlib.Core.Path.{_≡_, refl, sym, ap, _∙_}
 use mathlib.Core.Logic.{_≢_}
 use Prim.Native.Nat.{ℕ, zero, suc, _+_, _-_, _/_, _<_, _≤_}
-use native.Mathlib.Decide.{decLt}
 use native.Mathlib.Numerals.{add-one}
 use native.Mathlib.Omega.{arith}
-use mathlib.Core.Bool.{Bool, true, false, cond, _||_}
 use mathlib.Core.List.{List, [], _∷_}
-use lib.ListN.{length, take, drop, getD, getElem?}
+use lib.ListN.{length, take, drop, getD}
 use lib.Seq.{drop-cons}
-use borrow.Author.Tests.{lt-ltb, le-ltb}
 use Rattle.records.specs.declared.Verdict.{Verdict}
-use Rattle.records.specs.Refusal.{noTemplate, stillHeld, outside}
-use Rattle.records.specs.Scan.{accepted}
-use Rattle.records.specs.Try.{Try, got, fails}
+use Rattle.records.specs.Refusal.{noTemplate}
 use Rattle.value.specs.declared.Value.{Value}
-use Rattle.value.specs.declared.Value.the-variants.{Undefined, Word}
-use Rattle.isa.specs.declared.Tag.{Tag}
-use Rattle.cells.specs.Cells.{cells, image, Formed, inside, loadFrom}
-use Rattle.kernel.specs.Kernel.{readAt, writeAt, number}
+use Rattle.cells.specs.Cells.{cells, image, Formed}
 use Rattle.kernel.proofs.Checking.{refuses, works}
-use Rattle.templates.specs.declared.Operand.{Operand}
-use Rattle.templates.specs.declared.Operand.the-variants.{Known, Waits}
 use Rattle.templates.specs.declared.Work.{Work}
-use Rattle.templates.specs.declared.Work.the-variants.{Done, Store}
 use Rattle.templates.specs.declared.Template.{Template}
 use Rattle.templates.specs.declared.State.{State}
-use Rattle.templates.specs.Templates.{anyReg}
-use Rattle.templates.specs.Machine.{Itb, ITB, nothing, anyHolds, Mach}
+use Rattle.templates.specs.Machine.{Itb, ITB, nothing, Mach}
 use Rattle.templates.specs.Layout.{blank, itbs, machOf, Laid}
 use Rattle.templates.proofs.Places.{held-length}
 use Rattle.sound.proofs.Decides.{sound-said}
 use Rattle.rules.specs.declared.Rule.{Rule}
-use Rattle.rules.specs.declared.Rule.the-variants as Rule
 use Rattle.renaming.specs.declared.Answer.{Answer}
 use Rattle.renaming.specs.declared.Settled.{Settled}
 use Rattle.rules.specs.Rules as Rules
-use Rattle.rules.specs.Rules.{Step, refused, apply, storing}
-use Rattle.renaming.specs.Answers.{answerOf, before, behind, Stands, at, Fit, Acts}
-use Rattle.rules.specs.Drain.{first, rules, firstOf, seek, oldest, Drained, further, drainFrom, drain, due, asks, refusal, blocking, blockedAt, retireRefusal, storeRefusal}
+use Rattle.rules.specs.Rules.{Step, refused, apply}
+use Rattle.renaming.specs.Answers.{behind, Stands, at, Fit, Acts}
+use Rattle.rules.specs.Drain.{first, rules, firstOf, seek, oldest, Drained, further, drainFrom, drain, due, asks, blocking, blockedAt, refusalAt}
 use Rattle.entry.specs.Entry.{entered}
 use Rattle.renaming.specs.Entries.{settled, drained, drainedMemory, Drains, Empties}
 use Rattle.renaming.proofs.Changes.{standing}
-use Rattle.renaming.proofs.Applied.{apply-at}
 use Rattle.rules.proofs.Keeping.{apply-keeps-sound}
 use Rattle.rules.proofs.Numbered.{Numbered, apply-numbered}
 use Rattle.renaming.proofs.Due.{due-first}
 use Rattle.renaming.proofs.Fitting.{acts-accepted, acts-refused, acts-laid}
 
 -- ---- what blocks
-
-refusal-of : (s : State) (t : Step) {r : Answer} → r ≡ answerOf s t → r .refusal ≡ refusal t
-refusal-of s (Rules.accepted σ m) e = ap (λ (x : Answer). x .refusal) e
-refusal-of s (refused n) e = ap (λ (x : Answer). x .refusal) e
 
 nobody : (s : State) → s .count ≡ 0 → machOf s .held ≡ []
 nobody s e = ap (λ (n : ℕ). itbs (take n (s .templates))) e
@@ -70,51 +52,11 @@ module _ (s : State) (x : Template) (w : Work) (h : Stands s 0 x w) where
       drop-cons (machOf s .held) 0 nothing (omega (arith, held-length s (h .laid), h .place))
       ∙ ap (λ (y : Itb). y ∷ drop 1 (machOf s .held)) (standing s 0 x w h)
 
-  pub blocking-is : (m : List Value) → refusal (at (asks w) s 0 x w m) ≡ blocking (machOf s) m (machOf s .held)
-  blocking-is m = ap refusal (sym (apply-at s (asks w) 0 m x w h)) ∙ sym (ap (blocking (machOf s) m) front)
-
-  pub blocking-answer : (m : List Value) {r : Answer} → r ≡ answerOf s (at (asks w) s 0 x w m) → r .refusal ≡ blocking (machOf s) m (machOf s .held)
-  blocking-answer m e = refusal-of s (at (asks w) s 0 x w m) e ∙ blocking-is m
+  pub blocking-is : (m : List Value) → refusalAt (asks w) 0 (machOf s) m ≡ blocking (machOf s) m (machOf s .held)
+  blocking-is m = sym (ap (blocking (machOf s) m) front)
 
   pub blocked-is : x .address ≡ blockedAt (machOf s .held)
   blocked-is = sym (ap blockedAt front)
-
--- a value template that is held
-refused-if : (held : Bool) (n : ℕ) (t : Step) → refusal t ≡ 0 → cond held n 0 ≡ refusal (cond held (refused n) t)
-refused-if true n t e = refl
-refused-if false n t e = sym e
-
-pub retire-blocked : (s : State) (x : Template) (t : Tag) (v : Value) (m : List Value) → retireRefusal t (s .registers) (behind s 0) ≡ refusal (at Rule.Retire s 0 x (Done t v) m)
-retire-blocked s x t v m = refused-if (anyReg t (s .registers) || anyHolds t (behind s 0)) stillHeld _ refl
-
--- a load and a store at an address are refused alike
-load-inside : (m : List Value) (k : ℕ) → k < length m → number (inside (getElem? m k)) ≡ 0
-load-inside [] k h = absurd (omega arith)
-load-inside (v ∷ m) zero h = refl
-load-inside (v ∷ m) (suc k) h = load-inside m k (omega arith)
-
-load-outside : (m : List Value) (k : ℕ) → length m ≤ k → number (inside (getElem? m k)) ≡ outside
-load-outside [] k h = refl
-load-outside (v ∷ m) zero h = absurd (omega arith)
-load-outside (v ∷ m) (suc k) h = load-outside m k (omega arith)
-
-numbers-alike : (m : List Value) (u v : Value) → number (writeAt m u v) ≡ number (readAt m u)
-unfolding loadFrom
-numbers-alike m Undefined v = refl
-numbers-alike m (Word w) v = at (decLt w (length m))
-  where
-    at : Dec (w < length m) → number (writeAt m (Word w) v) ≡ number (inside (getElem? m w))
-    at (yes h) = rw (lt-ltb w (length m) h) (sym (load-inside m w h))
-    at (no h) = rw (le-ltb w (length m) (omega arith)) (sym (load-outside m w (omega arith)))
-
-stored-refusal : (s : State) (pre post : List Itb) (t : Try (List Value)) → refusal (storing (machOf s) pre post t) ≡ number t
-stored-refusal s pre post (got m) = refl
-stored-refusal s pre post (fails n) = refl
-
-pub store-blocked : (s : State) (x : Template) (a b : Operand) (m : List Value) → storeRefusal m a b ≡ refusal (at Rule.Store s 0 x (Store a b) m)
-store-blocked s x (Waits t) b m = refl
-store-blocked s x (Known u) (Waits t) m = refl
-store-blocked s x (Known u) (Known v) m = sym (numbers-alike m u v) ∙ sym (stored-refusal s (before s 0) (behind s 0) (writeAt m u v))
 
 -- ---- the loop of a drain
 

@@ -5,17 +5,13 @@ ghost use Rattle.records.specs.Scan.{accepted};
 ghost use Rattle.isa.specs.Program.{scanOf};
 ghost use Rattle.cells.specs.Cells.{cells};
 ghost use Rattle.templates.specs.Layout.{places, machOf, Laid};
-ghost use Rattle.rules.specs.Drain.{due, dueValue, dueJump, retireRefusal, storeRefusal, blocking, blockedAt};
-ghost use Rattle.renaming.specs.Answers.{behind, Fit, Within};
+ghost use Rattle.rules.specs.Drain.{due, dueValue, dueJump, blocking, blockedAt};
+ghost use Rattle.renaming.specs.Answers.{behind, Fit};
 ghost use Rattle.renaming.specs.Entries.{settled, Empties, Drains};
 use crate::Settled;
 use crate::apply;
-use crate::memory;
-use crate::waiting;
-use cells::Loaded;
 use isa::InstrAddr;
 use isa::Tag;
-use records::refusal;
 use rules::Rule;
 use templates::Operand;
 use templates::ROOM;
@@ -73,38 +69,9 @@ fn due_jump(a: Operand) -> Rule
     }
 }
 
-// Why a Store that nothing is ahead of doesn't go; nothing is written.
-fn store_refusal(a: Operand, b: Operand, memory: &[u8]) -> u8
-    ensures { λ r. ⌜ r ≡ storeRefusal (cells (now (memory .entry))) a b ⌝ }
-{
-    match a {
-        Operand::Known(u) => match b {
-            Operand::Known(_) => match kernel::read_at(memory, u) {
-                Loaded::Is(_) => 0,
-                Loaded::Refused(n) => n,
-            },
-            Operand::Waits(_) => refusal::NEEDS_TAG,
-        },
-        Operand::Waits(_) => refusal::NEEDS_TAG,
-    }
-}
-
-// Why the oldest template, if it is a value template, doesn't retire.
-fn retire_refusal(s: State, t: Tag) -> u8
-    ensures { λ r. ⌜ r ≡ retireRefusal t (s .registers) (behind s 0) ⌝ }
-{
-    let rf = s.registers;
-    let ts = s.templates;
-    let n = s.count;
-    if table::held_by_register(rf, t) | table::held_from(ts, n, 1, t) {
-        return refusal::STILL_HELD;
-    }
-    0
-}
-
 // Why the oldest template doesn't run; 0 if there is none.
 fn blocked_by(s: State, memory: &[u8]) -> u8
-    requires { ⌜ Laid s × Within s ⌝ }
+    requires { ⌜ Laid s ⌝ }
     ensures { λ r. ⌜ r ≡ blocking (machOf s) (cells (now (memory .entry))) (machOf s .held) ⌝ }
 {
     if s.count == 0 {
@@ -113,13 +80,7 @@ fn blocked_by(s: State, memory: &[u8]) -> u8
     let ts = s.templates;
     let x = ts[0];
     let w = x.work;
-    match w {
-        Work::Done(t, _) => retire_refusal(s, t),
-        Work::Op(t, n, a, b) => waiting::operate(s, 0, x, t, n, a, b).refusal,
-        Work::Jz(a, b) => waiting::jump(s, 0, x, a, b).refusal,
-        Work::Load(t, a) => memory::load(s, 0, x, t, a, memory).refusal,
-        Work::Store(a, b) => store_refusal(a, b, memory),
-    }
+    judge::refusal_at(s, judge::asks(w), 0, memory)
 }
 
 // The address of the oldest template; 0 if there is none.
@@ -136,7 +97,7 @@ fn blocked_at(s: State) -> InstrAddr
 }
 
 fn settle(s: State, rules: usize, memory: &[u8]) -> Settled
-    requires { ⌜ Laid s × Within s ⌝ }
+    requires { ⌜ Laid s ⌝ }
     ensures { λ r. ⌜ r ≡ settled (record { rules = rules; machine = machOf s; memory = cells (now (memory .entry)) }) ⌝ }
 {
     let refusal = blocked_by(s, memory);

@@ -17,7 +17,7 @@ use templates::Template;
 use templates::Work;
 use value::Value;
 
-pub(crate) fn load(s: State, p: usize, x: Template, t: Tag, a: Operand, memory: &[u8]) -> Answer
+fn load(s: State, p: usize, x: Template, t: Tag, a: Operand, memory: &[u8]) -> Answer
     requires { ⌜ Stands s p x (Work.Load t a) ⌝ }
     ensures { λ r. ⌜ r ≡ answerOf s (at Rule.Load s p x (Work.Load t a) (cells (now (memory .entry)))) ⌝ }
 {

@@ -17,15 +17,7 @@ use templates::Template;
 use templates::Work;
 use value::Value;
 
-pub(crate) fn operate(
-    s: State,
-    p: usize,
-    x: Template,
-    t: Tag,
-    n: u8,
-    a: Operand,
-    b: Operand,
-) -> Answer
+fn operate(s: State, p: usize, x: Template, t: Tag, n: u8, a: Operand, b: Operand) -> Answer
     requires { ⌜ Stands s p x (Work.Op t n a b) ⌝ }
     ensures { λ r. ⌜ Gives s (at Rule.Operate s p x (Work.Op t n a b)) r ⌝ }
 {
@@ -44,7 +36,7 @@ pub(crate) fn operate(
     }
 }
 
-pub(crate) fn jump(s: State, p: usize, x: Template, a: Operand, b: Operand) -> Answer
+fn jump(s: State, p: usize, x: Template, a: Operand, b: Operand) -> Answer
     requires { ⌜ Stands s p x (Work.Jz a b) ⌝ }
     ensures { λ r. ⌜ Gives s (at Rule.Jump s p x (Work.Jz a b)) r ⌝ }
 {

@@ -10,3 +10,4 @@ pub mod Staying
 pub mod Due
 pub mod Oldest
 pub mod Accepted
+pub mod Judging

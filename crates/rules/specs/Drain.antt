@@ -1,15 +1,14 @@
 -- The drain: the lowest place with an allowed rule other than issue, there the lowest rule number, until none.
 use Prim.Native.Nat.{ℕ, zero, suc, _+_, _*_}
-use mathlib.Core.Bool.{cond, _||_}
+use mathlib.Core.Bool.{cond}
 use mathlib.Core.List.{List, [], _∷_}
 use lib.Dec.{eqb}
 use lib.ListN.{length}
-use Rattle.records.specs.Refusal.{noTemplate, needsTag, stillHeld}
+use Rattle.records.specs.Refusal.{noTemplate}
 use Rattle.value.specs.declared.Value.{Value}
 use Rattle.value.specs.declared.Value.the-variants.{Undefined, Word}
 use Rattle.isa.specs.declared.InstrAddr.{InstrAddr}
 use Rattle.isa.specs.declared.Tag.{Tag}
-use Rattle.kernel.specs.Kernel.{readAt, number}
 use Rattle.templates.specs.declared.Operand.{Operand}
 use Rattle.templates.specs.declared.Operand.the-variants.{Known, Waits}
 use Rattle.templates.specs.declared.Work.{Work}
@@ -114,13 +113,3 @@ due rf post (Op t n x y) = Rule.Operate
 due rf post (Jz x y) = dueJump x
 due rf post (Load t x) = Rule.Load
 due rf post (Store x y) = Rule.Store
-
--- why a value template doesn't retire, by its tag, the registers and the templates behind it
-abbrev pub retireRefusal : Tag → List Register → List Itb → ℕ
-retireRefusal t rf post = cond (anyReg t rf || anyHolds t post) stillHeld 0
-
--- why a Store that nothing is ahead of doesn't go, by its address and its data
-abbrev pub storeRefusal : List Value → Operand → Operand → ℕ
-storeRefusal m (Waits t) y = needsTag
-storeRefusal m (Known u) (Waits t) = needsTag
-storeRefusal m (Known u) (Known v) = number (readAt m u)

@@ -6,3 +6,4 @@ pub mod Drain
 pub mod Moves
 pub mod Schedules
 pub mod OldestFirst
+pub mod Judge

@@ -17,7 +17,7 @@ loop-holds : tie.Need-loop-holds Inv-loop μ-loop
 loop-holds c = drain-begins (c .before .before .args .program .now) (c .before .before .args .s) (c .before .before .args .memory .now) (c .before .before .pre .0)
 
 settle-requires : tie.Need-settle-requires Inv-loop μ-loop
-settle-requires c κs = (c .before .before .before .loop .inv .fit .laid, fit-within (c .before .before .before .before .before .before .args .program .now) (c .before .before .before .loop .state) (c .before .before .before .before .before .before .pre .1) (c .before .before .before .loop .inv .fit))
+settle-requires c κs = c .before .before .before .loop .inv .fit .laid
 
 same-length : tie.Need-same-length Inv-loop μ-loop
 same-length c = c .before .before .before .before .loop .inv .long
@@ -56,7 +56,7 @@ loop-again-2 : tie.Need-loop-again-2 Inv-loop μ-loop
 loop-again-2 c = drain-on (c .before .before .before .before .before .before .before .before .before .before .loop .inv) (omega (arith, c .before .before .before .before .before .before .before .before .before .loop-test .taken)) (c .before .before .before .before .before .before .before .before .if1 .left) refl (c .before .before .before .before .before .before .due .ensures) (c .before .before .before .before .apply .ensures) (c .if2 .left) (c .before .before .before .before .apply .kept .1 .1 .1 .0)
 
 settle-requires-2 : tie.Need-settle-requires-2 Inv-loop μ-loop
-settle-requires-2 c κs = (c .before .before .loop .inv .fit .laid, fit-within (c .before .before .before .before .before .args .program .now) (c .before .before .loop .state) (c .before .before .before .before .before .pre .1) (c .before .before .loop .inv .fit))
+settle-requires-2 c κs = c .before .before .loop .inv .fit .laid
 
 same-length-2 : tie.Need-same-length-2 Inv-loop μ-loop
 same-length-2 c = c .before .before .before .loop .inv .long

@@ -12,7 +12,7 @@ blocked-at-requires : tie.Need-blocked-at-requires
 blocked-at-requires c κs = search needs
 
 returns : tie.Need-returns
-returns c = rw (c .before .blocked-by .ensures, c .blocked-at .ensures, stateOf-machOf (c .before .before .before .args .s) (c .before .before .before .pre .0)) refl
+returns c = rw (c .before .blocked-by .ensures, c .blocked-at .ensures, stateOf-machOf (c .before .before .before .args .s) (c .before .before .before .pre)) refl
 
 pub settle-spec : {M : Type 1} → statement M
 settle-spec = tie.close (tie.spec blocked-by-requires blocked-at-requires returns)
