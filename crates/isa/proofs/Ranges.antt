@@ -1,5 +1,5 @@
 -- The registers of a well-formed instruction are registers.
-use mathlib.Core.Path.{_≡_, sym, ap, _∙_}
+use mathlib.Core.Path.{_≡_}
 use Prim.Native.Nat.{_<_}
 use mathlib.Core.Bool.{true, _&&_}
 use lib.Dec.{leb}
@@ -35,7 +35,3 @@ in-range (Op r n r1 r2) e =
 in-range (Jz r1 r2) e = two r1 r2 e
 in-range (Load r r1) e = two r r1 e
 in-range (Store r1 r2) e = two r1 r2 e
-
--- of an instruction that a match told
-pub told-range : {i j : Instr} → isFormed i ≡ true → i ≡ j → InRange j
-told-range {i} {j} f e = in-range j (sym (ap isFormed e) ∙ f)
