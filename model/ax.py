@@ -60,8 +60,8 @@ OPERATIONS = (
 
 
 def result(operation, first, second):
-    """The value of an operation on two values."""
-    if first is None or second is None:
+    """The value of an operation on two values; a number that is no operation makes no word."""
+    if first is None or second is None or operation >= len(OPERATIONS):
         return None
     return OPERATIONS[operation][1](first, second)
 
@@ -118,6 +118,13 @@ def write_instruction(instruction, output):
         return Refusal.INSTRUCTION
     output[0:8] = bytes(instruction[0:4]) + instruction.constant.to_bytes(4, "little")
     return ACCEPTED
+
+
+def fetch(program, address):
+    """The refusal (0 if none) and the instruction at an address."""
+    if address >= len(program) // 8:
+        return Refusal.NO_INSTRUCTION, None
+    return read_instruction(records(program, 8)[address])
 
 
 def scan_program(program):
@@ -473,7 +480,7 @@ def step(program, memory, state, record):
     return issue(program, state, tag) if rule == Rule.ISSUE else at_place(memory, state, rule, place)
 
 
-# Runs and drains. State and memory are changed in place, by the accepted part only.
+# Steps, runs and drains of any state. State and memory are changed in place, by the accepted part only.
 
 Run = namedtuple("Run", "accepted issued refusal record")
 Drain = namedtuple("Drain", "refusal record applied blocked")  # blocked: (address, refusal) or None
@@ -490,6 +497,12 @@ def check(program, memory, schedule=b"", state=None):
     if state is not None and not sound(state, len(program) // 8):
         return Refusal.UNSOUND, 0
     return ACCEPTED, 0
+
+
+def checked_step(program, memory, record, state):
+    """The checks 1 to 4, then one record of exactly 4 bytes: refusal (0 if none) and record number."""
+    refusal, number = (Refusal.BUFFER, 0) if len(record) != 4 else check(program, memory, record, state)
+    return (refusal, number) if refusal else (step(scan_program(program)[1], memory, state, record), 0)
 
 
 def run(program, memory, schedule, state):

@@ -1,4 +1,18 @@
-"""Writes the cases in bulk and what the second model says the bulk program prints for them."""
+"""Writes the cases in bulk and what the second model says the bulk program prints for them.
+
+The file is a record of 8 bytes whose word is the number of cases, then the cases. A case is a record with its kind, a byte and a word; then four parts,
+each behind a record whose word is its length: the program, the memory or output that is lent, the schedule, and what else the kind is given.
+
+0  the report of a program, a memory and a schedule
+1  an in-order run of as many instructions as the word says
+2  a run, then a drain, from the state in the last part, each with the whole state that it leaves
+3  a step for each record of the schedule, from the state in the last part, each with the whole state that it leaves
+4  what is read of a program and of a memory: both judged, and what stands at the address in the word
+5  the instruction in the last part, written to the output
+6  the value in the last part, stored at the address in the word
+7  the listing of a program, in the output
+8  the operation in the byte, on the two values in the last part
+"""
 
 import copy
 import itertools
@@ -12,6 +26,7 @@ SEED = 0x9E3779B97F4A7C15
 LAST = (1 << 32) - 1
 EIGHTH = 1 << 29  # eight times this wraps to 0 in 32 bits
 BUDGET = 1000  # for the in-order run of the same program and memory behind each report
+NAMES = ("", "Loadc", "Loadpc", "Op", "Jz", "Load", "Store")  # of the instructions, by their codes
 CORNERS = (0, 1, 2, 3, 7, 65535, 65536, (1 << 31) - 1, 1 << 31, (1 << 31) + 1, LAST - 6, LAST - 1, LAST)
 KINDS = (VALUE, OP, JZ, LOAD, STORE)  # in the order of their numbers in the file
 
@@ -180,21 +195,21 @@ def decode_state(data):
     return state
 
 
-def encode_case(kind, program, memory, schedule, rest):
-    """A record with the length of each part, the first with the kind too, and the parts."""
-    head = struct.pack("<8I", kind, len(program), 0, len(memory), 0, len(schedule), 0, len(rest))
-    return head + program + memory + schedule + rest
+def encode_case(kind, parts, byte=0, word=0):
+    """The case's record, and each part behind its own."""
+    head = struct.pack("<BBHI", kind, byte, 0, word)
+    return head + b"".join(struct.pack("<II", 0, len(part)) + part for part in parts)
 
 
 def decode_case(data):
-    """The kind, and the four parts."""
-    numbers = struct.unpack("<8I", data[:32])
-    parts, start = [], 32
-    for length in numbers[1::2]:
-        parts.append(data[start:start + length])
-        start += length
-    assert start == len(data)
-    return numbers[0], parts
+    """The kind, the byte, the word and the four parts."""
+    kind, byte, word = struct.unpack("<BBxxI", data[:8])
+    parts, start = [], 8
+    while start < len(data):
+        length = struct.unpack("<xxxxI", data[start:start + 8])[0]
+        parts.append(data[start + 8:start + 8 + length])
+        start += 8 + length
+    return kind, byte, word, parts
 
 
 class Cases:
@@ -203,51 +218,141 @@ class Cases:
     def __init__(self):
         self.encoded = []
 
+    def add(self, kind, program=b"", lent=b"", schedule=b"", rest=b"", byte=0, word=0):
+        self.encoded.append(encode_case(kind, (program, lent, schedule, rest), byte, word))
+
     def report(self, program, memory, schedule):
-        self.encoded.append(encode_case(0, program, memory, schedule, b""))
+        """The same program and memory run in order too."""
+        self.add(0, program, memory, schedule)
+        self.in_order(program, memory, BUDGET)
 
     def in_order(self, program, memory, budget):
-        self.encoded.append(encode_case(1, program, memory, b"", struct.pack("<II", 0, budget)))
+        self.add(1, program, memory, word=budget)
 
     def handed(self, program, memory, schedule, state, stored=0):
-        self.encoded.append(encode_case(2, program, memory, schedule, encode_state(state, stored)))
+        self.add(2, program, memory, schedule, encode_state(state, stored))
+
+    def steps(self, program, memory, schedule, state=None):
+        self.add(3, program, memory, schedule, encode_state(state or ax.State()))
+
+    def look(self, program, memory, address):
+        self.add(4, program, memory, word=address)
+
+    def write(self, fields, output):
+        self.add(5, lent=output, rest=fields)
+
+    def store(self, memory, address, value):
+        self.add(6, lent=memory, rest=encode_content(value), word=address)
+
+    def listing(self, program, room):
+        """The output holds dots before."""
+        self.add(7, program, b"." * room)
+
+    def operate(self, operation, first, second):
+        self.add(8, rest=encode_content(first) + encode_content(second), byte=operation)
 
     def all_kinds(self, program, memory, schedule):
-        """The same three buffers in each kind, from the start state."""
+        """The same three buffers in each kind of run, from the start state."""
         self.report(program, memory, schedule)
         self.in_order(program, memory, 100)
         self.handed(program, memory, schedule, ax.State())
 
 
-# What the bulk program prints, worked out from the file's bytes alone.
+# What the bulk program prints, worked out from the file's bytes alone. Each takes a case's byte, word and parts, with memory as a bytearray.
 
-def in_order_lines(program, memory, budget):
-    memory = bytearray(memory)
-    answer = ax.in_order_run(program, memory, budget)
-    lines = ["executed %d stop %d record %d" % answer[:3]]
-    if answer.stop in (1, 2, 3):
-        return lines
-    return lines + ax.content_lines(answer.machine.counter, answer.machine.registers, memory)
+def content_text(content):
+    if isinstance(content, Tag):
+        return "t%d" % content.number
+    return "undefined" if content is None else "%d" % content
 
 
-def handed_lines(program, memory, schedule, state):
-    memory = bytearray(memory)
-    answer = ax.run(program, memory, schedule, state)
-    lines = ["accepted %d refused %d record %d" % (answer.accepted, answer.refusal, answer.record)]
-    lines.append("issued %d" % answer.issued)
-    return lines if answer.refusal in (1, 2, 3, 4) else lines + ax.drained_lines(program, memory, state)
+def content_lines(counter, registers, memory):
+    """As the report has them; nothing where the memory isn't whole cells."""
+    return ax.content_lines(counter, registers, memory) if ax.whole(memory, 8, ax.MEMORY_LIMIT) else []
+
+
+def state_lines(state, memory):
+    """A line for each template, with all of its fields, then the contents."""
+    lines = ["template %d %s %d %d %s %s" % (t[:4] + (content_text(t.first), content_text(t.second)))
+             for t in state.templates()]
+    return lines + content_lines(state.counter, state.registers, memory)
+
+
+def report_lines(byte, word, program, memory, schedule, rest):
+    return ax.report(program, memory, schedule).splitlines()
+
+
+def in_order_lines(byte, word, program, memory, schedule, rest):
+    answer = ax.in_order_run(program, memory, word)
+    line = "executed %d stop %d record %d" % answer[:3]
+    return [line] + content_lines(answer.machine.counter, answer.machine.registers, memory)
+
+
+def run_lines(byte, word, program, memory, schedule, rest):
+    state = decode_state(rest)
+    lines = ["accepted %d issued %d refused %d record %d" % ax.run(program, memory, schedule, state)]
+    lines += state_lines(state, memory)
+    refusal, number, applied, blocked = ax.drain(program, memory, state)
+    address, refusal = blocked or (0, refusal)
+    lines.append("drained %d refused %d record %d address %d" % (applied, refusal, number, address))
+    return lines + state_lines(state, memory)
+
+
+def step_lines(byte, word, program, memory, schedule, rest):
+    """The last record may be short."""
+    state, lines = decode_state(rest), []
+    for record in ax.records(schedule, 4):
+        lines.append("refused %d record %d" % ax.checked_step(program, memory, record, state))
+        lines += state_lines(state, memory)
+    return lines
+
+
+def reading_text(reading):
+    refusal, i = reading
+    return "refused %d" % refusal if refusal else "%s %d %d %d %d" % ((NAMES[i.code],) + i[1:])
+
+
+def look_lines(byte, word, program, memory, schedule, rest):
+    refusal = ax.address_refusal(memory, word)
+    loaded = "refused %d" % refusal if refusal else content_text(ax.load_cell(memory, word))
+    return ["read " + reading_text(ax.read_instruction(program)), "fetch " + reading_text(ax.fetch(program, word)),
+            "program %d record %d" % ax.check(program, b""), "memory %d record %d" % ax.check(b"", memory),
+            "load " + loaded]
+
+
+def bytes_line(name, refusal, buffer):
+    return " ".join([name] + ["%d" % number for number in (refusal, *buffer)])
+
+
+def write_lines(byte, word, program, output, schedule, rest):
+    refusal = ax.write_instruction(ax.Instruction(*struct.unpack("<BBBBI", rest)), output)
+    return [bytes_line("write", refusal, output)]
+
+
+def store_lines(byte, word, program, memory, schedule, rest):
+    refusal = ax.address_refusal(memory, word)
+    if not refusal:
+        ax.store_cell(memory, word, decode_content(rest))
+    return [bytes_line("store", refusal, memory)]
+
+
+def listing_lines(byte, word, program, output, schedule, rest):
+    answer = ax.listing(program, output)
+    return ["listed %d record %d bytes %d" % answer, output.decode("ascii")]
+
+
+def operate_lines(byte, word, program, memory, schedule, rest):
+    return ["result " + content_text(ax.result(byte, decode_content(rest[:8]), decode_content(rest[8:])))]
+
+
+LINES = (report_lines, in_order_lines, run_lines, step_lines, look_lines, write_lines, store_lines, listing_lines,
+         operate_lines)  # by their kinds
 
 
 def case_text(data):
     """What is printed for one encoded case."""
-    kind, (program, memory, schedule, rest) = decode_case(data)
-    if kind == 0:
-        lines = in_order_lines(program, memory, BUDGET)
-        return ax.report(program, memory, schedule) + "".join(line + "\n" for line in lines)
-    if kind == 1:
-        lines = in_order_lines(program, memory, struct.unpack("<II", rest)[1])
-    else:
-        lines = handed_lines(program, memory, schedule, decode_state(rest))
+    kind, byte, word, (program, memory, schedule, rest) = decode_case(data)
+    lines = LINES[kind](byte, word, program, bytearray(memory), schedule, rest)
     return "".join(line + "\n" for line in lines)
 
 
@@ -702,7 +807,7 @@ def branch_scenarios():
 
 
 def refusals(cases, rng):
-    """Each scenario with the refused record last, in the middle, first before others, and alone."""
+    """Each scenario with the refused record last, in the middle, first before others, and alone; and as steps."""
     scenarios = itertools.chain(issue_scenarios(), value_scenarios(), access_scenarios(), branch_scenarios())
     for program, memory, accepted, refused in scenarios:
         state, after = ax.State(), bytearray(memory)
@@ -712,6 +817,7 @@ def refusals(cases, rng):
         cases.report(program, memory, accepted + refused)
         cases.report(program, memory, accepted + refused + tail)
         cases.handed(program, bytes(after), refused + tail, state)
+        cases.steps(program, bytes(after), refused, state)
         if state.count < 10:
             cases.handed(program, bytes(after), refused, state)
 
@@ -871,6 +977,7 @@ def soundness(cases, rng):
     groups = (sound_edges(), unsound_tags(), unsound_operands(), unsound_stalls(), unsound_fields(), unsound_blanks())
     for program, state in itertools.chain(*groups):
         cases.handed(program, memory_of(4, None), issue(60), state, rng.choose((0, 0, 3)))
+        cases.steps(program, memory_of(4, None), bytes(4), state)  # 4 comes before 5
     for stored in (0, 1, 5, 64):
         cases.handed(TWO, memory_of(4), b"", state_of((t_value(1, 1),), ((0, Tag(1)),)), stored)
 
@@ -1007,10 +1114,198 @@ def any_sound_states(cases, rng):
             cases.handed(program, memory, schedule, state)
 
 
+# What is called alone: operations, the records of programs and memory, the listing.
+
+def operation_calls(cases, rng):
+    """P1 to P6 first; then the corners of Div and Less, numbers that are no operation, and undefined operands."""
+    words = ((0, LAST, 1), (1, 0, 1), (3, LAST - 6, 2), (3, 7, 0), (4, LAST, 0), (2, 65536, 65536), (3, 1 << 31, LAST),
+             (3, 7, LAST - 1), (3, LAST - 6, LAST - 1), (3, 1 << 31, 1), (3, 1 << 31, 0), (4, 0, LAST),
+             (4, 1 << 31, (1 << 31) - 1), (4, 7, 7), (2, LAST, LAST), (0, (1 << 31) - 1, 1), (5, 1, 1), (255, 1, 1))
+    for operation, first, second in words:
+        cases.operate(operation, first, second)
+    for operation, (first, second) in itertools.product(range(6), ((None, 1), (1, None), (None, None))):
+        cases.operate(operation, first, second)
+
+
+def instruction_records(cases, rng):
+    """P7 and P8 first; then codes, operations, the highest register and the next, each byte set to 1, and lengths."""
+    seven = bytes((1, 1, 0, 0, 6, 0, 0, 0))
+    alone = [seven, with_byte(seven, 2, 1), op(1, 2, 3, 4), op(1, 2, 3, 5), op(1, 2, 3, 255)]
+    alone += [with_byte(bytes(8), 0, code) for code in (0, 7, 255)]
+    fields = ((1, 1), (2, 1), (3, 1), (3, 2), (3, 3), (4, 2), (4, 3), (5, 1), (5, 2), (6, 2), (6, 3))
+    alone += [with_byte(bytes((code,)) + bytes(7), byte, r) for code, byte in fields for r in (31, 32)]
+    alone += [with_byte(record, byte, 1) for record in GOOD for byte in range(1, 8)]
+    for record in alone + [b"", seven[:7], seven + bytes(1), bytes(9)]:
+        cases.look(record, b"", 0)
+
+
+def cell_records(cases, rng):
+    cells = [with_byte(cell, byte, 1) for cell in (memory_of(None), memory_of(5)) for byte in range(8)]
+    for cell in cells + [with_byte(bytes(8), 0, 2), with_byte(memory_of(5), 0, 255)]:
+        cases.look(b"", cell, 0)
+
+
+def largest_buffers(cases, rng):
+    """Programs and memories of the largest size and around it; the first malformed record is named, behind a wrong length."""
+    bad = bytes((7, 0, 0, 0, 0, 0, 0, 0))
+    for length in (7, 8, 9, 8193, 8200):
+        cases.look((loadpc(0) * 1025)[:length], bytes(length), 0)
+    for address in (0, 1023, 1024, LAST):
+        cases.look(loadpc(0) * 1024, bytes(8192), address)
+    for places, lengths in (((1023,), (8184, 8192, 8200)), ((512, 1023), (8192,)), ((0, 512, 1023), (8, 9, 8192))):
+        program, memory = loadpc(0) * 1025, bytes(8200)
+        for place in places:
+            program = program[:8 * place] + bad + program[8 * place + 8:]
+            memory = memory[:8 * place] + bad + memory[8 * place + 8:]
+        for length in lengths:
+            cases.look(program[:length], memory[:length], places[-1] if length > 9 else 0)
+    cases.look(loadpc(0) * 1023 + bad, b"", 1022)
+
+
+def written_instructions(cases, rng):
+    """Outputs that are too short, whole and longer; then malformed instructions, behind a short output."""
+    for size in (7, 8, 10):
+        cases.write(loadc(1, 6), b"\t" * size)
+    for fields in (loadc(1, 305419896), loadc(31, LAST), loadpc(5), op(1, 2, 3, 4), jz(1, 2), load(4, 1), store(2, 4)):
+        cases.write(fields, b"\t" * 10)
+    for size in (7, 10):
+        cases.write(loadc(32, 6), b"\t" * size)
+    for fields in (loadpc(32), op(32, 0, 0, 0), op(0, 32, 0, 0), op(0, 0, 32, 0), op(0, 0, 0, 5), jz(32, 0), jz(0, 32),
+                   load(32, 0), load(0, 32), store(32, 0), store(0, 32)):
+        cases.write(fields, b"\t" * 8)
+
+
+def loads_and_stores(cases, rng):
+    """The first, the last and no cell, of three and of the most; memory is printed byte by byte after a store."""
+    three, words = memory_of(None, None, None), memory_of(7, 305419896, LAST)
+    cases.look(b"", b"", 0)
+    for memory, address in itertools.product((three, words), (0, 1, 2, 3, LAST)):
+        cases.look(b"", memory, address)
+        for value in (5, LAST, None):
+            cases.store(memory, address, value)
+    largest = memory_of(*(None,) * 1023 + (6,))
+    for address in (1022, 1023, 1024):
+        cases.look(b"", largest, address)
+    cases.store(bytes(8192), 1023, 6)
+    cases.store(bytes(8192), 1024, 6)
+
+
+def listings(cases, rng):
+    """The scope paper's lines, the other words, rooms that just fit and don't, a malformed record, the longest listing."""
+    cases.listing(FULL_RUN + program_of(jz(1, 2), load(4, 1), loadpc(5)), 248)
+    cases.listing(program_of(loadc(31, LAST), op(10, 31, 0, 1), op(0, 10, 9, 2), op(1, 2, 3, 4)), 124)
+    bad = loadc(1, 6) + bytes(8)
+    for length, room in ((0, 0), (0, 5), (8, 30), (8, 31), (8, 40), (9, 62), (16, 62), (16, 61)):
+        cases.listing(bad[:length], room)
+    for count, room in ((1024, 31744), (1024, 31743), (1025, 31775)):
+        cases.listing(loadc(31, LAST) * count, room)
+
+
+# Single steps, with the whole state after each.
+
+def full_run_by_steps(cases, rng):
+    """The scope paper's run rule by rule; what is refused before any rule; 64 issues and one more."""
+    memory, state = bytearray(TWO_UNDEFINED), ax.State()
+    ax.run(FULL_RUN, memory, FULL_SCHEDULE, state)
+    cases.steps(FULL_RUN, TWO_UNDEFINED, FULL_SCHEDULE + b"".join(oldest_first(memory, state)))
+    two = program_of(loadc(1, 6), loadc(2, 0))
+    cases.steps(two, TWO_UNDEFINED, issue(1)[:3])
+    cases.steps(two[1:], TWO_UNDEFINED, issue(1))
+    cases.steps(two, TWO_UNDEFINED[1:], issue(1))
+    bad_cell = bytes((2, 0, 0, 0, 0, 0, 0, 0)) + memory_of(None)
+    cases.steps(two, bad_cell, bytes(4))  # 3 before 5
+    cases.steps(loadc(1, 6) + loadc(32, 0), bad_cell, bytes(4))  # 2 before 3
+    for record in (bytes(4), at(10, 0), bytes((1, 1, 1, 0)), bytes((5, 0, 1, 0)), bytes((1, 0, 1, 1))):
+        cases.steps(two, TWO_UNDEFINED, record)
+    for length in (64, 65):
+        cases.handed(loadc(1, 6) * length, TWO_UNDEFINED, issues(*range(1, 66)), ax.State())
+
+
+def issue_steps(cases, rng):
+    """What issue refuses, 6 to 9, and what it takes just beside that."""
+    jump = program_of(loadc(1, 0), loadc(2, 1000), jz(1, 2))
+    cases.steps(b"", TWO_UNDEFINED, issue(1))
+    cases.steps(loadc(1, 6), TWO_UNDEFINED, issues(1, 2))
+    cases.steps(program_of(loadc(1, 6), jz(1, 1)), TWO_UNDEFINED, issues(1, 0, 2))
+    cases.steps(jump, TWO_UNDEFINED, issue(1) + at(4, 0) + issue(2) + at(4, 1) + issue(0) + at(8, 2) + issue(3))
+    for tag in (0, 1, 64, 65):
+        cases.steps(loadc(1, 6) * 2, TWO_UNDEFINED, issues(1, tag))
+    cases.steps(loadc(1, 6) * 2, TWO_UNDEFINED, issue(1) + at(4, 0) + issue(1))
+    cases.steps(loadc(1, 6) * 2, TWO_UNDEFINED, issue(1) + at(4, 0) + at(5, 0) + issue(1))
+    for record, tag in itertools.product((jz(1, 2), store(1, 2)), (0, 1)):
+        cases.steps(record, TWO_UNDEFINED, issue(tag))
+
+
+def value_steps(cases, rng):
+    """10 to 14: no template there, another kind, operands that are tags, nobody and somebody who holds the tag."""
+    waiting = program_of(loadc(1, 7), op(2, 1, 3, 0), jz(1, 2))
+    for record in (at(2, 1), at(5, 255), at(3, 0)):
+        cases.steps(waiting, TWO_UNDEFINED, issue(1) + record)
+    for rule, place in ((2, 0), (3, 1), (4, 1), (5, 1), (6, 0), (7, 0), (8, 1), (9, 0), (2, 2)):
+        cases.steps(waiting, TWO_UNDEFINED, issues(1, 2, 0) + at(rule, place))
+    for tail in (at(2, 1), at(3, 0) + at(2, 1), at(3, 0) + at(3, 0), at(3, 0) + at(4, 0) + at(4, 0), at(3, 0) + at(5, 0),
+                 at(3, 0) + at(4, 0) + at(5, 0), at(4, 0) + at(5, 0)):
+        cases.steps(waiting, TWO_UNDEFINED, issues(1, 2) + tail)
+    cases.steps(program_of(loadc(1, 7), op(2, 3, 1, 0)), TWO_UNDEFINED, issues(1, 2) + at(2, 1))
+    for record in (at(4, 0), at(5, 0)):  # r1 is renamed by the second
+        cases.steps(program_of(loadc(1, 6), loadc(1, 7)), TWO_UNDEFINED, issues(1, 2) + record)
+
+
+def branch_steps(cases, rng):
+    """12, 16 and 18: a condition and a target that are known, waiting or undefined."""
+    seven = program_of(loadc(1, 7), op(2, 1, 3, 0), jz(1, 2))
+    zero = program_of(loadc(1, 0), op(2, 1, 1, 3), jz(1, 2))
+    for rule in (8, 9):
+        cases.steps(seven, TWO_UNDEFINED, issues(1, 2, 0) + at(rule, 2))
+        for program in (seven, zero):
+            cases.steps(program, TWO_UNDEFINED, issues(1, 2, 0) + at(3, 0) + at(rule, 2))
+        cases.steps(program_of(loadc(1, 0), jz(2, 1)), TWO_UNDEFINED, issues(1, 0) + at(rule, 1))
+    cases.steps(zero, TWO_UNDEFINED, issues(1, 2, 0) + at(3, 0) + at(2, 1) + at(3, 1) + at(8, 2))
+
+
+def access_steps(cases, rng):
+    """12 and 15 to 17, the last cell and one past it; and drains that end blocked."""
+    for address in (1, 2):
+        for access, tag, rule in ((load(2, 1), 2, 6), (store(1, 2), 0, 7)):
+            program = loadc(1, address) + access
+            cases.steps(program, TWO_UNDEFINED, issues(1, tag) + at(rule, 1))
+            cases.steps(program, TWO_UNDEFINED, issues(1, tag) + at(3, 0) + at(rule, 1))
+            cases.handed(program, TWO_UNDEFINED, issues(1, tag), ax.State())
+    data = loadc(1, 0) + store(2, 1)
+    cases.steps(data, TWO_UNDEFINED, issues(1, 0) + at(7, 1))
+    cases.steps(data, TWO_UNDEFINED, issues(1, 0) + at(3, 0) + at(7, 1))
+    cases.steps(program_of(loadc(1, 0), store(1, 1), load(2, 1)), TWO_UNDEFINED, issues(1, 0, 2) + at(6, 2))
+    cases.steps(program_of(loadc(1, 0), load(2, 1), store(1, 1)), TWO_UNDEFINED, issues(1, 2, 0) + at(7, 2))
+    cases.steps(load(1, 2), TWO_UNDEFINED, issue(1) + at(6, 0))
+    cases.handed(load(1, 2), TWO_UNDEFINED, issue(1), ax.State())
+    cases.handed(loadpc(1) + jz(1, 2), TWO_UNDEFINED, issues(1, 0, 2), ax.State())
+
+
+def unsound_steps(cases, rng):
+    """States of two templates, each but three wrong in one thing, with a record that is malformed: 4 comes before 5."""
+    two, words = program_of(loadc(1, 6), loadc(2, 0)), ((0, 1), (1, 2))
+    sixes = (t_value(1, 6), t_value(2, 6))
+    branch = t_jz(7, 0)
+    states = [state_of((t_value(1, 6), t_op(2, Tag(1), 1, 4)), ((0, Tag(1)), (1, Tag(2))), 2)]
+    states += [state_of((t_value(tag, 6), t_value(2, 6)), words, 2) for tag in (0, 2, 64, 65)]
+    states += [state_of(sixes, registers, 2) for registers in (((0, Tag(3)), (1, 2)), ((0, Tag(1)), (1, Tag(1))))]
+    states += [state_of((t_op(1, Tag(tag), 1), t_value(2, 6)), words, 2) for tag in (1, 2)]
+    states += [state_of(sixes, words, 2, count) for count in (1, 65)]
+    states += [state_of((t_op(1, 0, 1, 5), t_value(2, 6)), words, 2), state_of((t_value(1, 6), branch), words)]
+    states += [state_of((t_value(1, 6), branch), words, 2), state_of(sixes, words, STALL)]
+    states += [state_of((branch, branch), words), state_of((), words, 9)]
+    for state in states:
+        cases.steps(two, TWO_UNDEFINED, bytes(4), state)
+    cases.steps(b"", TWO_UNDEFINED, bytes(4), state_of(sixes, words, 2))
+    cases.handed(FULL_RUN, TWO_UNDEFINED, issue(1), state_of((), words, STALL))
+
+
 GROUPS = (
     examples, easy_to_get_wrong, operations, malformed_instructions, malformed_cells, malformed_schedules,
     wrong_sizes, order_of_checks, refusals, rules_on_kinds, branch_operands, holders, access_operands,
     issue_operands, soundness, sizes, stops, jumps_and_memory, random_runs, long_runs, reached_states, any_sound_states,
+    operation_calls, instruction_records, cell_records, largest_buffers, written_instructions, loads_and_stores, listings,
+    full_run_by_steps, issue_steps, value_steps, branch_steps, access_steps, unsound_steps,
 )
 
 

@@ -58,6 +58,9 @@ class Operations(unittest.TestCase):
             for first, second in ((None, 1), (1, None), (None, None)):
                 self.assertIsNone(ax.result(operation, first, second))
 
+    def test_a_number_that_is_no_operation(self):
+        self.assertEqual([ax.result(number, 1, 1) for number in (5, 255)], [None, None])
+
 
 class Records(unittest.TestCase):
     P7 = bytes((1, 1, 0, 0, 6, 0, 0, 0))
@@ -92,6 +95,11 @@ class Records(unittest.TestCase):
         self.assertEqual(ax.read_instruction(op(31, 31, 31, 4))[0], 0)
         for record in (op(32, 0, 0, 0), op(0, 32, 0, 0), op(0, 0, 32, 0), op(0, 0, 0, 5), bytes(8), b"\7" + bytes(7)):
             self.assertEqual(ax.read_instruction(record)[0], 2)
+
+    def test_fetch(self):
+        program = self.P7 + bytes(8) + self.P7[:7]
+        self.assertEqual([ax.fetch(program, address)[0] for address in (0, 1, 2, LAST)], [0, 2, 6, 6])
+        self.assertEqual(ax.fetch(program, 0)[1], Instruction(1, 1, 0, 0, 6))
 
     def test_cells(self):
         for cell, good in ((memory_of(None), True), (memory_of(0), True), (memory_of(LAST), True),
@@ -366,6 +374,16 @@ class Order(unittest.TestCase):
         self.assertEqual(run(b"", b"", bytes(4), unsound)[0], (0, 0, 4, 0))
         self.assertEqual(run(b"", b"", bytes(4))[0], (0, 0, 5, 0))
 
+    def test_checks_of_a_step(self):
+        bad, cell, unsound = loadc(1, 6) + bytes(8), memory_of(1) + b"\2" + bytes(7), state_of((), ((0, Tag(1)),))
+        self.assertEqual(ax.checked_step(bad, cell, issue(1)[:3], unsound), (1, 0))
+        self.assertEqual(ax.checked_step(bad, cell, issue(1) * 2, unsound), (1, 0))
+        self.assertEqual(ax.checked_step(bad, cell, bytes(4), unsound), (2, 1))
+        self.assertEqual(ax.checked_step(b"", cell, bytes(4), unsound), (3, 1))
+        self.assertEqual(ax.checked_step(b"", b"", bytes(4), unsound), (4, 0))
+        self.assertEqual(ax.checked_step(b"", b"", bytes(4), State()), (5, 0))
+        self.assertEqual(ax.checked_step(loadc(1, 6), b"", issue(1), State()), (0, 0))
+
     def test_issue(self):
         full = [t_value(tag, 0) for tag in range(1, 65)]
         self.assertEqual(refusal(loadc(1, 6), b"", issue(0), state_of(full[:63] + [t_jz(1, 1)])), 7)
@@ -458,6 +476,40 @@ class AgainstInOrder(unittest.TestCase):
 
 
 class Generator(unittest.TestCase):
+    def lines(self, add):
+        """What is printed for the one case that is added."""
+        cases = g.Cases()
+        add(cases)
+        return g.case_text(cases.encoded[0]).splitlines()
+
+    def test_a_case_is_read_as_written(self):
+        case = g.encode_case(3, (b"program", b"", b"schedule", b"rest"), 7, LAST)
+        self.assertEqual(g.decode_case(case), (3, 7, LAST, [b"program", b"", b"schedule", b"rest"]))
+
+    def test_a_step_shows_the_whole_state(self):
+        program = program_of(loadc(1, 6), op(2, 1, 9, DIV))
+        self.assertEqual(self.lines(lambda cases: cases.steps(program, memory_of(None, 7), issues(1, 2) + b"\1")), [
+            "refused 0 record 0", "template 0 value 1 0 6 undefined", "pc 1", "r1 t1", "m1 7",
+            "refused 0 record 0", "template 0 value 1 0 6 undefined", "template 1 Op 2 3 t1 undefined", "pc 2", "r1 t1", "r2 t2", "m1 7",
+            "refused 1 record 0", "template 0 value 1 0 6 undefined", "template 1 Op 2 3 t1 undefined", "pc 2", "r1 t1", "r2 t2", "m1 7"])
+
+    def test_a_run_and_a_drain(self):
+        self.assertEqual(self.lines(lambda cases: cases.handed(load(1, 2), memory_of(None), issue(1), State())), [
+            "accepted 1 issued 1 refused 0 record 0", "template 0 Load 1 0 undefined undefined", "pc 1", "r1 t1",
+            "drained 0 refused 16 record 0 address 0", "template 0 Load 1 0 undefined undefined", "pc 1", "r1 t1"])
+        self.assertEqual(self.lines(lambda cases: cases.handed(b"", b"1", b"", State())), [
+            "accepted 0 issued 0 refused 1 record 0", "drained 0 refused 1 record 0 address 0"])
+
+    def test_what_is_called_alone(self):
+        self.assertEqual(self.lines(lambda cases: cases.look(op(1, 2, 3, LESS), memory_of(5) + b"\2" + bytes(7), 1)), [
+            "read Op 1 2 3 4", "fetch refused 6", "program 0 record 0", "memory 3 record 1", "load undefined"])
+        self.assertEqual(self.lines(lambda cases: cases.write(loadc(1, 6), b"\t" * 9)), ["write 0 1 1 0 0 6 0 0 0 9"])
+        self.assertEqual(self.lines(lambda cases: cases.store(memory_of(5), 0, None)), ["store 0 0 0 0 0 0 0 0 0"])
+        self.assertEqual(self.lines(lambda cases: cases.store(memory_of(5), 1, 6)), ["store 17 1 0 0 0 5 0 0 0"])
+        self.assertEqual(self.lines(lambda cases: cases.listing(loadpc(5), 31)), [
+            "listed 0 record 0 bytes 16", "0: r5 := Loadpc", "." * 15])
+        self.assertEqual(self.lines(lambda cases: cases.operate(DIV, 7, 0)), ["result undefined"])
+
     def test_numbers_never_change(self):
         rng = g.Random()
         self.assertEqual([rng.below(1000) for _ in range(6)], [592, 489, 394, 661, 148, 874])

@@ -1,86 +1,119 @@
-// What a case answers, by its kind: a report and an in-order run, an in-order run, or a run and a drain from a handed state.
+// What a case answers, by its kind.
 use crate::bytes;
-use crate::parts;
 use crate::show;
 use crate::states;
 use inorder::InOrder;
+use isa::DataAddr;
+use isa::InstrAddr;
+use records::Record;
 use templates::State;
 
-// One cell more than a memory may have, which some case tries.
-const MEMORY: usize = 8200;
-
-// Twice a report's 24,576 bytes, and the lines before each.
-const TEXT: usize = 49408;
-
-// How many instructions are executed in order, of the program that a report is about.
-const BUDGET: u32 = 1000;
-
-// The report, then the same program and memory in order.
-fn report(out: &mut [u8], at: usize, case: &[u8], memory: &mut [u8]) -> usize {
-    let to = show::run_in_full(out, at, parts::program(case), memory, parts::schedule(case));
-    bytes::copy(parts::memory(case), memory);
-    in_order(out, to, case, memory, BUDGET)
+fn report(program: &[u8], memory: &mut [u8], schedule: &[u8]) {
+    let mut out = [0u8; report::ROOM];
+    let r = report::report(program, memory, schedule, &mut out);
+    show::put(bytes::first(&out, r.written));
 }
 
-// Refused input, with 1 to 3, has no contents to print.
-fn in_order(out: &mut [u8], at: usize, case: &[u8], memory: &mut [u8], budget: u32) -> usize {
-    let ran = InOrder::start().run(parts::program(case), memory, budget);
-    let stop = ran.stop;
+fn in_order(program: &[u8], memory: &mut [u8], budget: u32) {
+    let ran = InOrder::start().run(program, memory, budget);
     let machine = ran.machine;
-    let to = show::executed(out, at, ran);
-    match stop {
-        1..=3 => to,
-        _ => show::contents(out, to, states::of_machine(machine), &memory[..]),
-    }
+    show::field(b"executed ", ran.executed as u64);
+    show::field(b" stop ", ran.stop as u64);
+    show::line(b" record ", ran.number as u64);
+    show::contents(states::of_machine(machine), &memory[..]);
 }
 
-// Refused input, with 1 to 4, isn't drained.
-fn handed(out: &mut [u8], at: usize, case: &[u8], memory: &mut [u8]) -> usize {
-    let program = parts::program(case);
-    let start = states::read(parts::state(case));
-    let ran = renaming::run(start, program, memory, parts::schedule(case));
-    let refusal = ran.refusal;
-    let state = ran.state;
-    let to = show::accepted(out, at, ran);
-    match refusal {
-        1..=4 => to,
-        _ => drained(out, to, program, memory, state),
-    }
-}
-
-fn drained(out: &mut [u8], at: usize, program: &[u8], memory: &mut [u8], state: State) -> usize {
+fn drain(program: &[u8], memory: &mut [u8], state: State) {
     let settled = renaming::drain(state, program, memory);
     let last = settled.state;
-    let to = show::drained(out, at, settled);
-    show::contents(out, to, last, &memory[..])
+    show::field(b"drained ", settled.rules as u64);
+    show::field(b" refused ", settled.refusal as u64);
+    show::field(b" record ", settled.number as u64);
+    show::line(b" address ", settled.address.0 as u64);
+    show::state(last, &memory[..]);
 }
 
-fn answer(out: &mut [u8], at: usize, case: &[u8], memory: &mut [u8]) -> usize {
-    let kind = parts::kind(case);
+fn run_and_drain(program: &[u8], memory: &mut [u8], schedule: &[u8], start: State) {
+    let ran = renaming::run(start, program, memory, schedule);
+    let state = ran.state;
+    show::field(b"accepted ", ran.accepted as u64);
+    show::field(b" issued ", ran.issued as u64);
+    show::field(b" refused ", ran.refusal as u64);
+    show::line(b" record ", ran.number as u64);
+    show::state(state, &memory[..]);
+    drain(program, memory, state);
+}
+
+fn step(program: &[u8], memory: &mut [u8], record: &[u8], before: State) -> State {
+    let stepped = renaming::step(before, program, memory, record);
+    let state = stepped.state;
+    show::field(b"refused ", stepped.refusal as u64);
+    show::line(b" record ", stepped.number as u64);
+    show::state(state, &memory[..]);
+    state
+}
+
+// The last record may be short.
+fn steps(program: &[u8], memory: &mut [u8], schedule: &[u8], start: State) {
+    let mut state = start;
+    let mut rest = schedule;
+    while rest.len() >= 4 {
+        state = step(program, memory, &rest[..4], state);
+        rest = &rest[4..];
+    }
+    if rest.len() > 0 {
+        step(program, memory, rest, state);
+    }
+}
+
+fn look(program: &[u8], memory: &[u8], address: u32) {
+    show::reading(b"read", isa::read(program));
+    show::reading(b"fetch", isa::fetch(program, InstrAddr(address)));
+    show::verdict(b"program ", isa::scan(program));
+    show::verdict(b"memory ", cells::scan(memory));
+    show::loaded(cells::load(memory, DataAddr(address)));
+}
+
+fn write(out: &mut [u8], given: &[u8]) {
+    let i = states::instruction_of(bytes::record(given, 0));
+    show::field(b"write ", isa::write(i, out) as u64);
+    show::bytes(&out[..]);
+}
+
+fn store(memory: &mut [u8], address: u32, given: &[u8]) {
+    let v = states::value_of(bytes::record(given, 0));
+    show::field(b"store ", cells::store(memory, DataAddr(address), v) as u64);
+    show::bytes(&memory[..]);
+}
+
+fn list(program: &[u8], out: &mut [u8]) {
+    let listed = listing::list(program, out);
+    show::field(b"listed ", listed.refusal as u64);
+    show::field(b" record ", listed.number as u64);
+    show::line(b" bytes ", listed.written as u64);
+    show::put(&out[..]);
+    show::put(b"\n");
+}
+
+fn operate(operation: u8, given: &[u8]) {
+    let a = states::value_of(bytes::record(given, 0));
+    let b = states::value_of(bytes::record(given, 1));
+    show::put(b"result");
+    show::value(value::operate(operation, a, b));
+    show::put(b"\n");
+}
+
+pub fn print(head: Record, program: &[u8], memory: &mut [u8], schedule: &[u8], given: &[u8]) {
+    let kind = head.b0;
     match kind {
-        0 => report(out, at, case, memory),
-        1 => in_order(out, at, case, memory, parts::budget(case)),
-        2 => handed(out, at, case, memory),
-        _ => show::line(out, at, b"no case is of kind ", kind as u64),
+        0 => report(program, memory, schedule),
+        1 => in_order(program, memory, head.word),
+        2 => run_and_drain(program, memory, schedule, states::read(given)),
+        3 => steps(program, memory, schedule, states::read(given)),
+        4 => look(program, &memory[..], head.word),
+        5 => write(memory, given),
+        6 => store(memory, head.word, given),
+        7 => list(program, memory),
+        _ => operate(head.b1, given),
     }
-}
-
-// The machines write to a copy of the case's memory.
-fn answer_on_copy(out: &mut [u8], at: usize, case: &[u8]) -> usize {
-    let given = parts::memory(case);
-    let n = given.len();
-    if n > MEMORY {
-        return show::line(out, at, b"no room for a memory of ", n as u64);
-    }
-    let mut memory = [0u8; MEMORY];
-    bytes::copy(given, &mut memory);
-    answer(out, at, case, &mut memory[..n])
-}
-
-// The case's number and its answer, in one write.
-pub fn print(number: u32, case: &[u8]) {
-    let mut out = [0u8; TEXT];
-    let at = show::line(&mut out, 0, b"case ", number as u64);
-    let end = answer_on_copy(&mut out, at, case);
-    show::say(bytes::first(&out, end));
 }

@@ -1,28 +1,10 @@
-// Parts and copies of bytes, and the records in them.
+// Parts of bytes, and the records in them.
 use records::Found;
 use records::Record;
 
 // The first n bytes, or all where there are no more.
 pub fn first(b: &[u8], n: usize) -> &[u8] {
     if n <= b.len() { &b[..n] } else { b }
-}
-
-// What follows the first n bytes, or nothing where there are no more.
-pub fn after(b: &[u8], n: usize) -> &[u8] {
-    let end = b.len();
-    if n <= end { &b[n..] } else { &b[end..] }
-}
-
-// Fills the start of one from the other, as far as both go.
-pub fn copy(from: &[u8], to: &mut [u8]) {
-    let mut i = 0;
-    while i < from.len() {
-        if i >= to.len() {
-            return;
-        }
-        to[i] = from[i];
-        i += 1;
-    }
 }
 
 // The record of that number; zeros where the bytes have none.

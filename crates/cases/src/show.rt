@@ -1,81 +1,139 @@
-// Lines, put into a lent buffer by functions that answer the place behind them, and the one write of what is there.
-use report::Reported;
+// Prints numbers, values, instructions and states.
+use crate::bytes;
+use cells::Loaded;
+use isa::Instr;
+use isa::Reading;
+use isa::Tag;
+use records::Verdict;
+use templates::Operand;
 use templates::State;
+use templates::Template;
+use templates::Work;
+use value::Value;
 
-pub fn say(b: &[u8]) {
+pub fn put(b: &[u8]) {
     io::write_all(1, b);
 }
 
 // A name, and a number behind it.
-fn field(out: &mut [u8], at: usize, name: &[u8], n: u64) -> usize {
-    let to = text::put(out, at, name);
-    text::put_decimal(out, to, n)
+pub fn field(name: &[u8], n: u64) {
+    io::write_all(1, name);
+    io::print_decimal(1, n);
 }
 
 // A field that ends its line.
-pub fn line(out: &mut [u8], at: usize, name: &[u8], n: u64) -> usize {
-    let end = field(out, at, name, n);
-    text::put(out, end, b"\n")
+pub fn line(name: &[u8], n: u64) {
+    field(name, n);
+    put(b"\n");
 }
 
-// What an in-order run did.
-pub fn executed(out: &mut [u8], at: usize, r: inorder::Ran) -> usize {
-    let stop = field(out, at, b"executed ", r.executed as u64);
-    let number = field(out, stop, b" stop ", r.stop as u64);
-    line(out, number, b" record ", r.number as u64)
-}
-
-// What a run accepted, and why it ended.
-pub fn accepted(out: &mut [u8], at: usize, r: renaming::Ran) -> usize {
-    let refused = field(out, at, b"accepted ", r.accepted as u64);
-    let number = field(out, refused, b" refused ", r.refusal as u64);
-    let issued = line(out, number, b" record ", r.number as u64);
-    line(out, issued, b"issued ", r.issued as u64)
-}
-
-// The count of a drain, or where and why it ended.
-pub fn drained(out: &mut [u8], at: usize, r: renaming::Settled) -> usize {
-    if r.refusal == 0 {
-        return line(out, at, b"drained ", r.rules as u64);
+// The rest of a line.
+pub fn bytes(b: &[u8]) {
+    let mut i: usize = 0;
+    while i < b.len() {
+        field(b" ", b[i] as u64);
+        i += 1;
     }
-    let by = field(out, at, b"blocked ", r.address.0 as u64);
-    let after = field(out, by, b" by ", r.refusal as u64);
-    line(out, after, b" after ", r.rules as u64)
+    put(b"\n");
 }
 
-// The place behind a report that was written from a place on; one that was refused is said in its stead.
-fn behind(out: &mut [u8], at: usize, r: Reported) -> usize {
-    if r.refusal != 0 {
-        return line(out, at, b"report refused ", r.refusal as u64);
+pub fn verdict(name: &[u8], v: Verdict) {
+    field(name, v.refusal as u64);
+    line(b" record ", v.number as u64);
+}
+
+// An instruction by the fields of its record, 0 where it has none.
+fn fields(name: &[u8], r: u8, r1: u8, r2: u8, constant: u32) {
+    field(name, r as u64);
+    field(b" ", r1 as u64);
+    field(b" ", r2 as u64);
+    line(b" ", constant as u64);
+}
+
+fn instruction(i: Instr) {
+    match i {
+        Instr::Loadc(r, k) => fields(b" Loadc ", r.0, 0, 0, k),
+        Instr::Loadpc(r) => fields(b" Loadpc ", r.0, 0, 0, 0),
+        Instr::Op(r, n, r1, r2) => fields(b" Op ", r.0, r1.0, r2.0, n as u32),
+        Instr::Jz(r1, r2) => fields(b" Jz ", 0, r1.0, r2.0, 0),
+        Instr::Load(r, r1) => fields(b" Load ", r.0, r1.0, 0, 0),
+        Instr::Store(r1, r2) => fields(b" Store ", 0, r1.0, r2.0, 0),
     }
-    if at <= out.len() {
-        if r.written <= out.len() - at {
-            return at + r.written;
+}
+
+pub fn reading(name: &[u8], r: Reading) {
+    put(name);
+    match r {
+        Reading::Is(i) => instruction(i),
+        Reading::Refused(n) => line(b" refused ", n as u64),
+    }
+}
+
+pub fn value(v: Value) {
+    match v {
+        Value::Undefined => put(b" undefined"),
+        Value::Word(w) => field(b" ", w as u64),
+    }
+}
+
+pub fn loaded(l: Loaded) {
+    put(b"load");
+    match l {
+        Loaded::Is(v) => value(v),
+        Loaded::Refused(n) => field(b" refused ", n as u64),
+    }
+    put(b"\n");
+}
+
+fn operand(o: Operand) {
+    match o {
+        Operand::Known(v) => value(v),
+        Operand::Waits(t) => field(b" t", t.0 as u64),
+    }
+}
+
+// What a template has to do: the tag and the operation are 0, and the operands undefined, where it has none.
+fn work(name: &[u8], t: Tag, n: u8, first: Operand, second: Operand) {
+    field(name, t.0 as u64);
+    field(b" ", n as u64);
+    operand(first);
+    operand(second);
+    put(b"\n");
+}
+
+fn template(x: Template) {
+    let none = Operand::Known(Value::Undefined);
+    let w = x.work;
+    field(b"template ", x.address.0 as u64);
+    match w {
+        Work::Done(t, v) => work(b" value ", t, 0, Operand::Known(v), none),
+        Work::Op(t, n, a, b) => work(b" Op ", t, n, a, b),
+        Work::Jz(a, b) => work(b" Jz ", Tag(0), 0, a, b),
+        Work::Load(t, a) => work(b" Load ", t, 0, a, none),
+        Work::Store(a, b) => work(b" Store ", Tag(0), 0, a, b),
+    }
+}
+
+fn table(ts: [Template; 64], count: usize) {
+    let mut place: usize = 0;
+    while place < 64 {
+        if place >= count {
+            return;
         }
+        template(ts[place]);
+        place += 1;
     }
-    out.len()
 }
 
-// The whole report, from the start state; no put answers a place past the buffer, and the test says so to the proof.
-pub fn run_in_full(
-    out: &mut [u8],
-    at: usize,
-    program: &[u8],
-    memory: &mut [u8],
-    schedule: &[u8],
-) -> usize {
-    if at > out.len() {
-        return at;
-    }
-    let r = report::report(program, memory, schedule, &mut out[at..]);
-    behind(out, at, r)
+// Counter, registers and cells as the report has them; nothing where the memory isn't whole cells.
+pub fn contents(s: State, memory: &[u8]) {
+    let mut out = [0u8; report::ROOM];
+    let r = report::contents(s, memory, &mut out);
+    put(bytes::first(&out, r.written));
 }
 
-// The lines from the counter's on.
-pub fn contents(out: &mut [u8], at: usize, state: State, memory: &[u8]) -> usize {
-    if at > out.len() {
-        return at;
-    }
-    let r = report::contents(state, memory, &mut out[at..]);
-    behind(out, at, r)
+pub fn state(s: State, memory: &[u8]) {
+    let ts = s.templates;
+    table(ts, s.count);
+    contents(s, memory);
 }

@@ -1,7 +1,9 @@
-// The state that a case hands over, and the in-order machine as a state.
+// What the last part of a case hands over: values, an instruction, a state; and the in-order machine as a state.
 use crate::bytes;
 use inorder::InOrder;
+use isa::Instr;
 use isa::InstrAddr;
+use isa::Reg;
 use isa::Tag;
 use records::Record;
 use templates::Counter;
@@ -12,7 +14,20 @@ use templates::Template;
 use templates::Work;
 use value::Value;
 
-fn value_of(r: Record) -> Value {
+// The fields as they stand in the record, also where they are malformed; an operation has the constant's lowest byte.
+pub fn instruction_of(r: Record) -> Instr {
+    let code = r.b0;
+    match code {
+        1 => Instr::Loadc(Reg(r.b1), r.word),
+        2 => Instr::Loadpc(Reg(r.b1)),
+        3 => Instr::Op(Reg(r.b1), (r.word % 256) as u8, Reg(r.b2), Reg(r.b3)),
+        4 => Instr::Jz(Reg(r.b2), Reg(r.b3)),
+        5 => Instr::Load(Reg(r.b1), Reg(r.b2)),
+        _ => Instr::Store(Reg(r.b2), Reg(r.b3)),
+    }
+}
+
+pub fn value_of(r: Record) -> Value {
     if r.b0 == 1 {
         Value::Word(r.word)
     } else {
@@ -41,10 +56,11 @@ fn work_of(head: Record, first: Record, second: Record) -> Work {
     }
 }
 
-// A row has four records: a register, then a template and its two operands.
-fn template(row: &[u8]) -> Template {
-    let head = bytes::record(row, 1);
-    let work = work_of(head, bytes::record(row, 2), bytes::record(row, 3));
+// The counter's record comes first, then a row of four records for each place: a register, a template and its two operands.
+fn template(b: &[u8], place: u8) -> Template {
+    let row = 4 * (place as usize);
+    let head = bytes::record(b, row + 2);
+    let work = work_of(head, bytes::record(b, row + 3), bytes::record(b, row + 4));
     Template {
         address: InstrAddr(head.word),
         work: work,
@@ -52,24 +68,24 @@ fn template(row: &[u8]) -> Template {
 }
 
 // Rows that are left out are read as zeros: here an undefined register, below a blank place.
-fn registers(rows: &[u8]) -> [Register; 32] {
+fn registers(b: &[u8]) -> [Register; 32] {
     let mut rf = [Register {
         holds: Operand::Known(Value::Undefined),
     }; 32];
     let mut r: usize = 0;
     while r < 32 {
-        let o = operand_of(bytes::record(rows, 4 * r));
+        let o = operand_of(bytes::record(b, 4 * r + 1));
         rf[r] = Register { holds: o };
         r += 1;
     }
     rf
 }
 
-fn table(rows: &[u8]) -> [Template; 64] {
+fn table(b: &[u8]) -> [Template; 64] {
     let mut ts = [templates::table::blank(); 64];
-    let mut place: usize = 0;
+    let mut place: u8 = 0;
     while place < 64 {
-        ts[place] = template(bytes::after(rows, 32 * place));
+        ts[place as usize] = template(b, place);
         place += 1;
     }
     ts
@@ -83,14 +99,13 @@ fn counter_of(r: Record) -> Counter {
     }
 }
 
-// The counter and the count stand before the rows.
+// The counter and the count stand in the first record.
 pub fn read(b: &[u8]) -> State {
     let r = bytes::record(b, 0);
-    let rows = bytes::after(b, 8);
     State {
         counter: counter_of(r),
-        registers: registers(rows),
-        templates: table(rows),
+        registers: registers(b),
+        templates: table(b),
         count: r.b1 as usize,
     }
 }

@@ -8,16 +8,19 @@ use Rattle.cases.proofs.states.registers.Statement.{statement}
 use Rattle.cases.proofs.states.registers.Tie as tie
 
 abbrev Inv-loop : tie.InvT-loop
-Inv-loop rows rf₀ r₀ rf r = (r ≤ 32) × (length rf ≡ 32)
+Inv-loop b rf₀ r₀ rf r = (r ≤ 32) × (length rf ≡ 32)
 
 abbrev μ-loop : tie.MeasureT-loop
-μ-loop rows rf₀ r₀ rf r = 32 - r
+μ-loop b rf₀ r₀ rf r = 32 - r
 
 loop-holds : tie.Need-loop-holds Inv-loop μ-loop
 loop-holds c = search needs
 
 mul-record : tie.Need-mul-record Inv-loop μ-loop
 mul-record c = omega arith
+
+add-record : tie.Need-add-record Inv-loop μ-loop
+add-record c = omega arith
 
 record-requires : tie.Need-record-requires Inv-loop μ-loop
 record-requires c κs = search needs
@@ -51,6 +54,7 @@ registers-spec =
     μ-loop
     loop-holds
     mul-record
+    add-record
     record-requires
     operand-of-requires
     mul-rf

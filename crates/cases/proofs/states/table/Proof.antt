@@ -8,10 +8,10 @@ use Rattle.cases.proofs.states.table.Statement.{statement}
 use Rattle.cases.proofs.states.table.Tie as tie
 
 abbrev Inv-loop : tie.InvT-loop
-Inv-loop rows ts₀ place₀ ts place = (place ≤ 64) × (length ts ≡ 64)
+Inv-loop b ts₀ place₀ ts place = (place ≤ 64) × (length ts ≡ 64)
 
 abbrev μ-loop : tie.MeasureT-loop
-μ-loop rows ts₀ place₀ ts place = 64 - place
+μ-loop b ts₀ place₀ ts place = 64 - place
 
 blank-requires : tie.Need-blank-requires Inv-loop μ-loop
 blank-requires c κs = search needs
@@ -19,14 +19,11 @@ blank-requires c κs = search needs
 loop-holds : tie.Need-loop-holds Inv-loop μ-loop
 loop-holds c = search needs
 
-mul-after : tie.Need-mul-after Inv-loop μ-loop
-mul-after c = omega arith
-
-after-requires : tie.Need-after-requires Inv-loop μ-loop
-after-requires c κs = search needs
-
 template-requires : tie.Need-template-requires Inv-loop μ-loop
 template-requires c κs = search needs
+
+cast-ts : tie.Need-cast-ts Inv-loop μ-loop
+cast-ts c = search needs
 
 mul-ts : tie.Need-mul-ts Inv-loop μ-loop
 mul-ts c = omega arith
@@ -54,9 +51,8 @@ table-spec =
     μ-loop
     blank-requires
     loop-holds
-    mul-after
-    after-requires
     template-requires
+    cast-ts
     mul-ts
     array-set-from-ts
     add-place

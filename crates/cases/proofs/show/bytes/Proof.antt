@@ -1,25 +1,28 @@
--- `try_ground::show::bytes` meets its contract.
+-- `cases::show::bytes` meets its contract: the place stays within the bytes.
 use Prim.Native.Nat.{_≤_, _-_}
+use lib.ListN.{length}
 use native.Mathlib.Omega.{arith}
 use borrow.Author.Needs.{needs}
-use lib.ListN.{length}
-use Rattle.try_ground.proofs.show.bytes.Statement.{statement}
-use Rattle.try_ground.proofs.show.bytes.Tie as tie
+use Rattle.cases.proofs.show.bytes.Statement.{statement}
+use Rattle.cases.proofs.show.bytes.Tie as tie
 
 abbrev Inv-loop : tie.InvT-loop
-Inv-loop b i₀ i = i ≤ length b
+Inv-loop b i₀ t3 t4 i = i ≤ length b
 
 abbrev μ-loop : tie.MeasureT-loop
-μ-loop b i₀ i = length b - i
+μ-loop b i₀ t3 t4 i = length b - i
 
 loop-holds : tie.Need-loop-holds Inv-loop μ-loop
-loop-holds c = omega arith
+loop-holds c = search needs
+
+slice-aggregate-field : tie.Need-slice-aggregate-field Inv-loop μ-loop
+slice-aggregate-field c = search needs
 
 shared-slice-read-field : tie.Need-shared-slice-read-field Inv-loop μ-loop
 shared-slice-read-field c = omega arith
 
 cast-field : tie.Need-cast-field Inv-loop μ-loop
-cast-field c = omega (arith, c .shared-slice-known2 .given (c .before .before .loop .i))
+cast-field c = omega (arith, c .shared-slice-known2 .given (c .before .before .before .loop .i))
 
 field-requires : tie.Need-field-requires Inv-loop μ-loop
 field-requires c κs = search needs
@@ -33,6 +36,12 @@ loop-less c = omega arith
 loop-again : tie.Need-loop-again Inv-loop μ-loop
 loop-again c = omega arith
 
+slice-aggregate-put : tie.Need-slice-aggregate-put Inv-loop μ-loop
+slice-aggregate-put c = search needs
+
+put-requires : tie.Need-put-requires Inv-loop μ-loop
+put-requires c κs = search needs
+
 returns : tie.Need-returns Inv-loop μ-loop
 returns c = search needs
 
@@ -43,10 +52,13 @@ bytes-spec =
     Inv-loop
     μ-loop
     loop-holds
+    slice-aggregate-field
     shared-slice-read-field
     cast-field
     field-requires
     add-i
     loop-less
     loop-again
+    slice-aggregate-put
+    put-requires
     returns)

@@ -1,9 +1,9 @@
--- `try_renaming::show::table` meets its contract.
+-- `cases::show::table` meets its contract: the place stays below 64.
 use Prim.Native.Nat.{_≤_, _-_}
 use native.Mathlib.Omega.{arith}
 use borrow.Author.Needs.{needs}
-use Rattle.try_renaming.proofs.show.table.Statement.{statement}
-use Rattle.try_renaming.proofs.show.table.Tie as tie
+use Rattle.cases.proofs.show.table.Statement.{statement}
+use Rattle.cases.proofs.show.table.Tie as tie
 
 abbrev Inv-loop : tie.InvT-loop
 Inv-loop count ts place₀ place = place ≤ 64
@@ -14,11 +14,14 @@ abbrev μ-loop : tie.MeasureT-loop
 loop-holds : tie.Need-loop-holds Inv-loop μ-loop
 loop-holds c = search needs
 
-mul-x : tie.Need-mul-x Inv-loop μ-loop
-mul-x c = omega arith
+returns : tie.Need-returns Inv-loop μ-loop
+returns c = search needs
 
-array-copy-out-x : tie.Need-array-copy-out-x Inv-loop μ-loop
-array-copy-out-x c = search needs
+mul-template : tie.Need-mul-template Inv-loop μ-loop
+mul-template c = omega arith
+
+array-copy-out-template : tie.Need-array-copy-out-template Inv-loop μ-loop
+array-copy-out-template c = search needs
 
 template-requires : tie.Need-template-requires Inv-loop μ-loop
 template-requires c κs = search needs
@@ -32,8 +35,8 @@ loop-less c = omega arith
 loop-again : tie.Need-loop-again Inv-loop μ-loop
 loop-again c = omega arith
 
-returns : tie.Need-returns Inv-loop μ-loop
-returns c = search needs
+returns-2 : tie.Need-returns-2 Inv-loop μ-loop
+returns-2 c = search needs
 
 pub table-spec : {M : Type 1} → statement M
 table-spec =
@@ -42,10 +45,11 @@ table-spec =
     Inv-loop
     μ-loop
     loop-holds
-    mul-x
-    array-copy-out-x
+    returns
+    mul-template
+    array-copy-out-template
     template-requires
     add-place
     loop-less
     loop-again
-    returns)
+    returns-2)
