@@ -1,5 +1,10 @@
-"""The three programs that are measured, their schedules, and what the second model says of each part."""
+"""The programs that are measured, their schedules, and what the second model says of each part.
 
+As a program it writes each case's three files to a folder of their own, for `target/bin/speed` to be run there by hand.
+"""
+
+import os
+import sys
 from collections import namedtuple
 
 import ax
@@ -10,7 +15,7 @@ Case = namedtuple("Case", "name program memory schedule")
 Done = namedtuple("Done", "rules refusal counter")  # rules or instructions, then how it ended
 
 
-# Programs. Each ends in a jump to a number that it has computed, so that the last counter tells a wrong machine.
+# Programs. Each but the blocked ones ends in a jump to a number that it has computed, so that the last counter tells a wrong machine.
 
 def counting_loop(turns=200):
     """Each turn loads a cell, adds 1 and stores it; at the end twice the cell is jumped to."""
@@ -36,6 +41,11 @@ def pointer_chase(loads=1000, cells=1024, stride=389):
     """Each load's result is the next one's address; the cells are one ring."""
     ring = memory_of(*((address + stride) % cells for address in range(cells)))
     return program_of(loadc(1, 5), loadc(2, 0), load(1, 1) * loads, jz(2, 1)), ring
+
+
+def blocked(loads, behind):
+    """Loads of an undefined address, and what stands behind them."""
+    return program_of(load(31, 30) * loads, *behind), memory_of(None, None)
 
 
 # Schedules: issue whenever it is allowed, with the lowest unused tag, and else what a drain would do.
@@ -67,9 +77,19 @@ def schedule_of(program, memory):
     return b"".join(schedule)
 
 
-def all_cases():
-    programs = (("counting loop", counting_loop()), ("straight line", straight_line()), ("pointer chase", pointer_chase()))
+def cases_of(*programs):
     return [Case(name, program, memory, schedule_of(program, memory)) for name, (program, memory) in programs]
+
+
+def all_cases():
+    return cases_of(("counting loop", counting_loop()), ("straight line", straight_line()), ("pointer chase", pointer_chase()))
+
+
+def blocked_cases():
+    """Tables whose oldest template is blocked: what a drain looks at counts there, and not what it does alone."""
+    return cases_of(("nothing allowed", blocked(1, [op(3, 31, 31, ADD)] * 63)),
+                    ("constants behind", blocked(1, [loadc(31, 6)] * 63)),
+                    ("loads ahead", blocked(32, [op(r, r, r, ADD) for r in range(31)])))
 
 
 def expected(case):
@@ -82,3 +102,22 @@ def expected(case):
     executed = ax.in_order_run(case.program, bytearray(case.memory), ran.issued)
     return {"run": run, "drain": drain,
             "inorder": Done(executed.executed, int(executed.stop), str(executed.machine.counter))}
+
+
+def write_files(case, folder):
+    for name in ("program", "memory", "schedule"):
+        with open(os.path.join(folder, name + ".ax"), "wb") as file:
+            file.write(getattr(case, name))
+
+
+def main(folder):
+    for case in all_cases() + blocked_cases():
+        own = os.path.join(folder, case.name.replace(" ", "_"))
+        os.makedirs(own, exist_ok=True)
+        write_files(case, own)
+
+
+if __name__ == "__main__":
+    if len(sys.argv) != 2:
+        sys.exit("usage: PYTHONPATH=model python3 bench/cases.py DIR")
+    main(sys.argv[1])

@@ -76,21 +76,19 @@ def enough(machine, task, idle):
         times *= min(50, int(1.3 * LEAST_SECONDS / max(spent, 0.001)) + 1)
 
 
-def rates(machines, task):
-    """Of each machine, what it does in a second. The machines take turns, so that a busy moment hits all."""
+def measured(machines, task):
+    """Of each machine, the seconds that the part takes once. The machines take turns, so that a busy moment hits all."""
     idle = {name: min(seconds(machine, task, 0) for _ in range(ROUNDS)) for name, machine in machines.items()}
     times = {name: enough(machine, task, idle[name]) for name, machine in machines.items()}
     best = {name: float("inf") for name in machines}
     for _ in range(ROUNDS):
         for name, machine in machines.items():
             best[name] = min(best[name], seconds(machine, task, times[name]) - idle[name])
-    return {name: times[name] * task.once.rules / best[name] for name in machines}
+    return {name: best[name] / times[name] for name in machines}
 
 
 def write_case(case, folder):
-    for name in ("program", "memory", "schedule"):
-        with open(os.path.join(folder, name + ".ax"), "wb") as file:
-            file.write(getattr(case, name))
+    cases.write_files(case, folder)
     with open(os.path.join(folder, "case.maude"), "w", encoding="utf-8") as file:
         file.write("\n".join(terms.module(case)) + "\n")
 
@@ -129,13 +127,23 @@ def installed(rust):
     return machines
 
 
-def all_tasks():
-    for case in cases.all_cases():
+def tasks(of, parts):
+    for case in of:
         with tempfile.TemporaryDirectory() as folder:
             write_case(case, folder)
             once = cases.expected(case)
-            for part in PARTS:
+            for part in parts:
                 yield Task(case, folder, part, once[part])
+
+
+def blocked_rows(machines):
+    """A drain of each blocked table, by what is native: Maude's rules are applied in another order."""
+    native = {name: machine for name, machine in machines.items() if isinstance(machine, Native)}
+    for task in tasks(cases.blocked_cases(), ["drain"]):
+        took = measured(native, task)
+        cells = ["%.3g" % (1e6 * took[name]) if name in took else "" for name in ("ours", "Rust")]
+        start = "%-16s  drain of %2d rules  us" % (task.case.name, task.once.rules)
+        yield "%-46s" % start + "".join("%12s" % cell for cell in cells)
 
 
 def main(rust):
@@ -143,11 +151,13 @@ def main(rust):
     print("load average: %.2f %.2f %.2f, %d processors\n" % (os.getloadavg() + (os.cpu_count(),)))
     print(" " * 46 + "".join("%12s" % head for head in ("ours", "Rust", "Maude", "ours/Maude", "Rust/ours")))
     met = []
-    for task in all_tasks():
-        rate = rates(machines, task)
+    for task in tasks(cases.all_cases(), PARTS):
+        rate = {name: task.once.rules / took for name, took in measured(machines, task).items()}
         print(row(task, rate), flush=True)
         if "Maude" in rate:
             met.append(ratio(rate, "ours", "Maude") >= TARGET)
+    for line in blocked_rows(machines):
+        print(line, flush=True)
     print(METHOD)
     if met:
         print("Target, at least %d times Maude: met in %d of %d." % (TARGET, sum(met), len(met)))

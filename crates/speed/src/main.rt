@@ -1,32 +1,46 @@
 // Runs, drains and runs in order as often as its three arguments say, so that it can be timed, and prints what was done.
 mod input;
 mod parts;
-mod show;
 
+use parts::Tally;
 use renaming::Ran;
+use templates::Counter;
 use templates::State;
 
-// The in-order run takes a 32-bit number, which the issues of every schedule that was read fit.
-fn budget(issued: usize) -> u32 {
-    if issued < 65536 { issued as u32 } else { 65536 }
+fn field(name: &[u8], n: u64) {
+    io::write_all(1, name);
+    io::print_decimal(1, n);
+}
+
+// A line of the form `run 10 refused 0 pc 5`.
+fn print(part: &[u8], t: Tally) {
+    let c = t.counter;
+    field(part, t.rules);
+    field(b" refused ", t.refusal as u64);
+    match c {
+        Counter::At(a) => field(b" pc ", a.0 as u64),
+        Counter::Stall => {
+            io::write_all(1, b" pc stall");
+        }
+    }
+    io::write_all(1, b"\n");
 }
 
 // A run and an in-order run start with memory as read, `kept`. A drain starts with what one run left: its state, and its
 // memory, `left`. The in-order machine executes as many instructions as that run issued.
 fn measure(ran: Ran, program: &[u8], kept: &[u8], left: &[u8], memory: &mut [u8], schedule: &[u8]) {
     let s = ran.state;
-    let issued = budget(ran.issued);
-    show::tally(
-        b"run",
+    print(
+        b"run ",
         parts::runs(input::times(1), program, kept, memory, schedule),
     );
-    show::tally(
-        b"drain",
+    print(
+        b"drain ",
         parts::drains(input::times(2), s, program, left, memory),
     );
-    show::tally(
-        b"inorder",
-        parts::executions(input::times(3), program, kept, memory, issued),
+    print(
+        b"inorder ",
+        parts::executions(input::times(3), program, kept, memory, ran.issued),
     );
 }
 

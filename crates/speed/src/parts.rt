@@ -1,5 +1,4 @@
 // The three parts that are timed, each repeated from the same state and from memory that is restored.
-ghost use Prim.Native.Nat.{_≤_};
 use inorder::InOrder;
 use isa::InstrAddr;
 use templates::Counter;
@@ -12,93 +11,87 @@ pub struct Tally {
     pub counter: Counter,
 }
 
-fn none() -> Tally {
-    Tally {
-        rules: 0,
-        refusal: 0,
-        counter: Counter::At(InstrAddr(0)),
-    }
-}
-
-fn least(a: usize, b: usize) -> usize
-    ensures { λ r. ⌜ (r ≤ a) × (r ≤ b) ⌝ }
-{
-    if a < b { a } else { b }
-}
-
 // Copies as many bytes as both have.
 fn restore(from: &[u8], to: &mut [u8]) {
-    let n = least(from.len(), to.len());
     let mut i: usize = 0;
-    while i < n {
+    while i < from.len() {
+        if i >= to.len() {
+            return;
+        }
         to[i] = from[i];
         i += 1;
     }
 }
 
-fn add(t: Tally, rules: u64, refusal: u8, counter: Counter) -> Tally {
-    Tally {
-        rules: std::num::wrapping_add_u64(t.rules, rules),
-        refusal: refusal,
-        counter: counter,
-    }
-}
-
-fn run_once(t: Tally, program: &[u8], kept: &[u8], memory: &mut [u8], schedule: &[u8]) -> Tally {
-    restore(kept, memory);
-    let ran = renaming::run(State::start(), program, memory, schedule);
-    let s = ran.state;
-    let c = s.counter;
-    add(t, ran.accepted as u64, ran.refusal, c)
-}
-
 pub fn runs(times: u32, program: &[u8], kept: &[u8], memory: &mut [u8], schedule: &[u8]) -> Tally {
-    let mut t = none();
+    let mut t = Tally {
+        rules: 0,
+        refusal: 0,
+        counter: Counter::At(InstrAddr(0)),
+    };
     let mut n: u32 = 0;
     while n < times {
-        t = run_once(t, program, kept, memory, schedule);
+        restore(kept, memory);
+        let ran = renaming::run(State::start(), program, memory, schedule);
+        let s = ran.state;
+        let c = s.counter;
+        t = Tally {
+            rules: std::num::wrapping_add_u64(t.rules, ran.accepted as u64),
+            refusal: ran.refusal,
+            counter: c,
+        };
         n += 1;
     }
     t
 }
 
-fn drain_once(t: Tally, s: State, program: &[u8], kept: &[u8], memory: &mut [u8]) -> Tally {
-    restore(kept, memory);
-    let settled = renaming::drain(s, program, memory);
-    let end = settled.state;
-    let c = end.counter;
-    add(t, settled.rules as u64, settled.refusal, c)
-}
-
-pub fn drains(times: u32, s: State, program: &[u8], kept: &[u8], memory: &mut [u8]) -> Tally {
-    let mut t = none();
+pub fn drains(times: u32, start: State, program: &[u8], kept: &[u8], memory: &mut [u8]) -> Tally {
+    let mut t = Tally {
+        rules: 0,
+        refusal: 0,
+        counter: Counter::At(InstrAddr(0)),
+    };
     let mut n: u32 = 0;
     while n < times {
-        t = drain_once(t, s, program, kept, memory);
+        restore(kept, memory);
+        let settled = renaming::drain(start, program, memory);
+        let s = settled.state;
+        let c = s.counter;
+        t = Tally {
+            rules: std::num::wrapping_add_u64(t.rules, settled.rules as u64),
+            refusal: settled.refusal,
+            counter: c,
+        };
         n += 1;
     }
     t
 }
 
-fn execute_once(t: Tally, program: &[u8], kept: &[u8], memory: &mut [u8], budget: u32) -> Tally {
-    restore(kept, memory);
-    let ran = InOrder::start().run(program, memory, budget);
-    let machine = ran.machine;
-    let at = machine.counter;
-    add(t, ran.executed as u64, ran.stop, Counter::At(at))
-}
-
+// The in-order run takes a 32-bit number, which the issues of every schedule that was read fit.
 pub fn executions(
     times: u32,
     program: &[u8],
     kept: &[u8],
     memory: &mut [u8],
-    budget: u32,
+    issued: usize,
 ) -> Tally {
-    let mut t = none();
+    let budget = if issued < 65536 { issued as u32 } else { 65536 };
+    let mut t = Tally {
+        rules: 0,
+        refusal: 0,
+        counter: Counter::At(InstrAddr(0)),
+    };
     let mut n: u32 = 0;
     while n < times {
-        t = execute_once(t, program, kept, memory, budget);
+        restore(kept, memory);
+        let ran = InOrder::start().run(program, memory, budget);
+        let machine = ran.machine;
+        let at = machine.counter;
+        t = Tally {
+            rules: std::num::wrapping_add_u64(t.rules, ran.executed as u64),
+            refusal: ran.stop,
+            counter: Counter::At(at),
+        };
         n += 1;
     }
     t

@@ -1,4 +1,4 @@
--- `speed::parts::drains` meets its contract.
+-- `speed::parts::drains` meets its contract: at each turn one repetition fewer is left, and memory keeps its length.
 use mathlib.Core.Path.{_≡_}
 use native.Mathlib.Omega.{arith}
 use borrow.Author.Needs.{needs}
@@ -8,19 +8,22 @@ use Rattle.speed.proofs.parts.drains.Statement.{statement}
 use Rattle.speed.proofs.parts.drains.Tie as tie
 
 abbrev Inv-loop : tie.InvT-loop
-Inv-loop times s program kept memory₀ t₀ n₀ memory t n = (length memory ≡ length memory₀) × (n ≤ times)
+Inv-loop times start program kept memory₀ t₀ n₀ memory t n = (length memory ≡ length memory₀) × (n ≤ times)
 
 abbrev μ-loop : tie.MeasureT-loop
-μ-loop times s program kept memory₀ t₀ n₀ memory t n = times - n
-
-none-requires : tie.Need-none-requires Inv-loop μ-loop
-none-requires c κs = search needs
+μ-loop times start program kept memory₀ t₀ n₀ memory t n = times - n
 
 loop-holds : tie.Need-loop-holds Inv-loop μ-loop
 loop-holds c = search needs
 
-drain-once-requires : tie.Need-drain-once-requires Inv-loop μ-loop
-drain-once-requires c κs = search needs
+restore-requires : tie.Need-restore-requires Inv-loop μ-loop
+restore-requires c κs = search needs
+
+drain-requires : tie.Need-drain-requires Inv-loop μ-loop
+drain-requires c κs = search needs
+
+wrapping-add-u64-requires : tie.Need-wrapping-add-u64-requires Inv-loop μ-loop
+wrapping-add-u64-requires c κs = search needs
 
 add-n : tie.Need-add-n Inv-loop μ-loop
 add-n c = omega arith
@@ -43,9 +46,10 @@ drains-spec =
     (tie.spec
     Inv-loop
     μ-loop
-    none-requires
     loop-holds
-    drain-once-requires
+    restore-requires
+    drain-requires
+    wrapping-add-u64-requires
     add-n
     loop-less
     loop-again

@@ -1,4 +1,4 @@
--- `speed::parts::executions` meets its contract.
+-- `speed::parts::executions` meets its contract: at each turn one repetition fewer is left, and memory keeps its length.
 use mathlib.Core.Path.{_≡_}
 use native.Mathlib.Omega.{arith}
 use borrow.Author.Needs.{needs}
@@ -8,19 +8,31 @@ use Rattle.speed.proofs.parts.executions.Statement.{statement}
 use Rattle.speed.proofs.parts.executions.Tie as tie
 
 abbrev Inv-loop : tie.InvT-loop
-Inv-loop times program kept memory₀ budget t₀ n₀ memory t n = (length memory ≡ length memory₀) × (n ≤ times)
+Inv-loop times program kept memory₀ issued budget t₀ n₀ memory t n = (length memory ≡ length memory₀) × (n ≤ times)
 
 abbrev μ-loop : tie.MeasureT-loop
-μ-loop times program kept memory₀ budget t₀ n₀ memory t n = times - n
+μ-loop times program kept memory₀ issued budget t₀ n₀ memory t n = times - n
 
-none-requires : tie.Need-none-requires Inv-loop μ-loop
-none-requires c κs = search needs
+cast-budget : tie.Need-cast-budget Inv-loop μ-loop
+cast-budget c = search needs
 
 loop-holds : tie.Need-loop-holds Inv-loop μ-loop
 loop-holds c = search needs
 
-execute-once-requires : tie.Need-execute-once-requires Inv-loop μ-loop
-execute-once-requires c κs = search needs
+restore-requires : tie.Need-restore-requires Inv-loop μ-loop
+restore-requires c κs = search needs
+
+start-requires : tie.Need-start-requires Inv-loop μ-loop
+start-requires c κs = search needs
+
+run-requires : tie.Need-run-requires Inv-loop μ-loop
+run-requires c κs = search needs
+
+cast-wrapping-add-u64 : tie.Need-cast-wrapping-add-u64 Inv-loop μ-loop
+cast-wrapping-add-u64 c = search needs
+
+wrapping-add-u64-requires : tie.Need-wrapping-add-u64-requires Inv-loop μ-loop
+wrapping-add-u64-requires c κs = search needs
 
 add-n : tie.Need-add-n Inv-loop μ-loop
 add-n c = omega arith
@@ -43,9 +55,13 @@ executions-spec =
     (tie.spec
     Inv-loop
     μ-loop
-    none-requires
+    cast-budget
     loop-holds
-    execute-once-requires
+    restore-requires
+    start-requires
+    run-requires
+    cast-wrapping-add-u64
+    wrapping-add-u64-requires
     add-n
     loop-less
     loop-again

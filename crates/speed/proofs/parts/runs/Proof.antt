@@ -1,4 +1,4 @@
--- `speed::parts::runs` meets its contract.
+-- `speed::parts::runs` meets its contract: at each turn one repetition fewer is left, and memory keeps its length.
 use mathlib.Core.Path.{_≡_}
 use native.Mathlib.Omega.{arith}
 use borrow.Author.Needs.{needs}
@@ -13,14 +13,20 @@ Inv-loop times program kept memory₀ schedule t₀ n₀ memory t n = (length me
 abbrev μ-loop : tie.MeasureT-loop
 μ-loop times program kept memory₀ schedule t₀ n₀ memory t n = times - n
 
-none-requires : tie.Need-none-requires Inv-loop μ-loop
-none-requires c κs = search needs
-
 loop-holds : tie.Need-loop-holds Inv-loop μ-loop
 loop-holds c = search needs
 
-run-once-requires : tie.Need-run-once-requires Inv-loop μ-loop
-run-once-requires c κs = search needs
+restore-requires : tie.Need-restore-requires Inv-loop μ-loop
+restore-requires c κs = search needs
+
+start-requires : tie.Need-start-requires Inv-loop μ-loop
+start-requires c κs = search needs
+
+run-requires : tie.Need-run-requires Inv-loop μ-loop
+run-requires c κs = search needs
+
+wrapping-add-u64-requires : tie.Need-wrapping-add-u64-requires Inv-loop μ-loop
+wrapping-add-u64-requires c κs = search needs
 
 add-n : tie.Need-add-n Inv-loop μ-loop
 add-n c = omega arith
@@ -43,9 +49,11 @@ runs-spec =
     (tie.spec
     Inv-loop
     μ-loop
-    none-requires
     loop-holds
-    run-once-requires
+    restore-requires
+    start-requires
+    run-requires
+    wrapping-add-u64-requires
     add-n
     loop-less
     loop-again
