@@ -27,15 +27,15 @@ fn load(path: &[u8], buf: &mut [u8]) -> usize
     n
 }
 
-// Reads program.ax, memory.ax and schedule.ax, each with room for one byte more than it may have, and prints the report.
-pub fn run() {
+// Reads the files of those three names, each with room for one byte more than it may have, and prints the report.
+pub fn run(program_path: &[u8], memory_path: &[u8], schedule_path: &[u8]) {
     let mut program = [0u8; 8193];
     let mut memory = [0u8; 8193];
     let mut schedule = [0u8; 65537];
     let mut out = [0u8; 24576];
-    let p = load(b"program.ax", &mut program);
-    let m = load(b"memory.ax", &mut memory);
-    let s = load(b"schedule.ax", &mut schedule);
+    let p = load(program_path, &mut program);
+    let m = load(memory_path, &mut memory);
+    let s = load(schedule_path, &mut schedule);
     let reported = report::report(&program[..p], &mut memory[..m], &schedule[..s], &mut out);
     let n = reported.written;
     io::write_all(STDOUT_FILENO, &out[..n]);

@@ -9,26 +9,17 @@ use Rattle.files.proofs.run.Tie as tie
 slice-aggregate-load : tie.Need-slice-aggregate-load
 slice-aggregate-load c = search needs
 
-slice-aggregate-load-2 : tie.Need-slice-aggregate-load-2
-slice-aggregate-load-2 c = search needs
-
 load-requires : tie.Need-load-requires
 load-requires c κs = search needs
 
-slice-aggregate-load-3 : tie.Need-slice-aggregate-load-3
-slice-aggregate-load-3 c = search needs
-
-slice-aggregate-load-4 : tie.Need-slice-aggregate-load-4
-slice-aggregate-load-4 c = search needs
+slice-aggregate-load-2 : tie.Need-slice-aggregate-load-2
+slice-aggregate-load-2 c = search needs
 
 load-requires-2 : tie.Need-load-requires-2
 load-requires-2 c κs = search needs
 
-slice-aggregate-load-5 : tie.Need-slice-aggregate-load-5
-slice-aggregate-load-5 c = search needs
-
-slice-aggregate-load-6 : tie.Need-slice-aggregate-load-6
-slice-aggregate-load-6 c = search needs
+slice-aggregate-load-3 : tie.Need-slice-aggregate-load-3
+slice-aggregate-load-3 c = search needs
 
 load-requires-3 : tie.Need-load-requires-3
 load-requires-3 c κs = search needs
@@ -74,13 +65,10 @@ run-spec =
     tie.close
     (tie.spec
     slice-aggregate-load
-    slice-aggregate-load-2
     load-requires
-    slice-aggregate-load-3
-    slice-aggregate-load-4
+    slice-aggregate-load-2
     load-requires-2
-    slice-aggregate-load-5
-    slice-aggregate-load-6
+    slice-aggregate-load-3
     load-requires-3
     array-share-prefix-program
     slice-aggregate-report
