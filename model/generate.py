@@ -1,7 +1,8 @@
 """Writes the cases in bulk and what the second model says the bulk program prints for them.
 
-The file is a record of 8 bytes whose word is the number of cases, then the cases. A case is a record with its kind, a byte and a word; then four parts,
-each behind a record whose word is its length: the program, the memory or output that is lent, the schedule, and what else the kind is given.
+The file is a record of 8 bytes whose word is the number of cases, then the cases. A case is a record with its kind, a byte and
+a word; then four parts, each behind a record whose word is its length: the program, the memory or output that is lent, the
+schedule, and what else the kind is given. The kinds:
 
 0  the report of a program, a memory and a schedule
 1  an in-order run of as many instructions as the word says
@@ -258,12 +259,13 @@ class Cases:
         self.handed(program, memory, schedule, ax.State())
 
 
-# What the bulk program prints, worked out from the file's bytes alone. Each takes a case's byte, word and parts, with memory as a bytearray.
+# What the bulk program prints, worked out from the file's bytes alone. Each takes a case's byte, word and parts, memory as a bytearray.
 
 def content_text(content):
+    """A dash where it is undefined."""
     if isinstance(content, Tag):
         return "t%d" % content.number
-    return "undefined" if content is None else "%d" % content
+    return "-" if content is None else "%d" % content
 
 
 def content_lines(counter, registers, memory):
@@ -273,7 +275,7 @@ def content_lines(counter, registers, memory):
 
 def state_lines(state, memory):
     """A line for each template, with all of its fields, then the contents."""
-    lines = ["template %d %s %d %d %s %s" % (t[:4] + (content_text(t.first), content_text(t.second)))
+    lines = ["%d: %s %d %d %s %s" % (t[:4] + (content_text(t.first), content_text(t.second)))
              for t in state.templates()]
     return lines + content_lines(state.counter, state.registers, memory)
 
@@ -294,7 +296,7 @@ def run_lines(byte, word, program, memory, schedule, rest):
     lines += state_lines(state, memory)
     refusal, number, applied, blocked = ax.drain(program, memory, state)
     address, refusal = blocked or (0, refusal)
-    lines.append("drained %d refused %d record %d address %d" % (applied, refusal, number, address))
+    lines.append("drained %d address %d refused %d record %d" % (applied, address, refusal, number))
     return lines + state_lines(state, memory)
 
 
@@ -817,9 +819,9 @@ def refusals(cases, rng):
         cases.report(program, memory, accepted + refused)
         cases.report(program, memory, accepted + refused + tail)
         cases.handed(program, bytes(after), refused + tail, state)
-        cases.steps(program, bytes(after), refused, state)
         if state.count < 10:
             cases.handed(program, bytes(after), refused, state)
+            cases.steps(program, bytes(after), refused, state)
 
 
 # Every rule on every kind, and every mixture of operands, from handed states.
@@ -1181,7 +1183,7 @@ def loads_and_stores(cases, rng):
     cases.look(b"", b"", 0)
     for memory, address in itertools.product((three, words), (0, 1, 2, 3, LAST)):
         cases.look(b"", memory, address)
-        for value in (5, LAST, None):
+        for value in (305419896, LAST, None):
             cases.store(memory, address, value)
     largest = memory_of(*(None,) * 1023 + (6,))
     for address in (1022, 1023, 1024):
@@ -1226,6 +1228,7 @@ def issue_steps(cases, rng):
     jump = program_of(loadc(1, 0), loadc(2, 1000), jz(1, 2))
     cases.steps(b"", TWO_UNDEFINED, issue(1))
     cases.steps(loadc(1, 6), TWO_UNDEFINED, issues(1, 2))
+    cases.steps(loadc(1, 6), TWO_UNDEFINED, issue(1), state_of([t_value(tag, 6) for tag in range(1, 65)]))
     cases.steps(program_of(loadc(1, 6), jz(1, 1)), TWO_UNDEFINED, issues(1, 0, 2))
     cases.steps(jump, TWO_UNDEFINED, issue(1) + at(4, 0) + issue(2) + at(4, 1) + issue(0) + at(8, 2) + issue(3))
     for tag in (0, 1, 64, 65):

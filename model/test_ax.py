@@ -489,26 +489,26 @@ class Generator(unittest.TestCase):
     def test_a_step_shows_the_whole_state(self):
         program = program_of(loadc(1, 6), op(2, 1, 9, DIV))
         self.assertEqual(self.lines(lambda cases: cases.steps(program, memory_of(None, 7), issues(1, 2) + b"\1")), [
-            "refused 0 record 0", "template 0 value 1 0 6 undefined", "pc 1", "r1 t1", "m1 7",
-            "refused 0 record 0", "template 0 value 1 0 6 undefined", "template 1 Op 2 3 t1 undefined", "pc 2", "r1 t1", "r2 t2", "m1 7",
-            "refused 1 record 0", "template 0 value 1 0 6 undefined", "template 1 Op 2 3 t1 undefined", "pc 2", "r1 t1", "r2 t2", "m1 7"])
+            "refused 0 record 0", "0: value 1 0 6 -", "pc 1", "r1 t1", "m1 7",
+            "refused 0 record 0", "0: value 1 0 6 -", "1: Op 2 3 t1 -", "pc 2", "r1 t1", "r2 t2", "m1 7",
+            "refused 1 record 0", "0: value 1 0 6 -", "1: Op 2 3 t1 -", "pc 2", "r1 t1", "r2 t2", "m1 7"])
 
     def test_a_run_and_a_drain(self):
         self.assertEqual(self.lines(lambda cases: cases.handed(load(1, 2), memory_of(None), issue(1), State())), [
-            "accepted 1 issued 1 refused 0 record 0", "template 0 Load 1 0 undefined undefined", "pc 1", "r1 t1",
-            "drained 0 refused 16 record 0 address 0", "template 0 Load 1 0 undefined undefined", "pc 1", "r1 t1"])
+            "accepted 1 issued 1 refused 0 record 0", "0: Load 1 0 - -", "pc 1", "r1 t1",
+            "drained 0 address 0 refused 16 record 0", "0: Load 1 0 - -", "pc 1", "r1 t1"])
         self.assertEqual(self.lines(lambda cases: cases.handed(b"", b"1", b"", State())), [
-            "accepted 0 issued 0 refused 1 record 0", "drained 0 refused 1 record 0 address 0"])
+            "accepted 0 issued 0 refused 1 record 0", "drained 0 address 0 refused 1 record 0"])
 
     def test_what_is_called_alone(self):
         self.assertEqual(self.lines(lambda cases: cases.look(op(1, 2, 3, LESS), memory_of(5) + b"\2" + bytes(7), 1)), [
-            "read Op 1 2 3 4", "fetch refused 6", "program 0 record 0", "memory 3 record 1", "load undefined"])
+            "read Op 1 2 3 4", "fetch refused 6", "program 0 record 0", "memory 3 record 1", "load -"])
         self.assertEqual(self.lines(lambda cases: cases.write(loadc(1, 6), b"\t" * 9)), ["write 0 1 1 0 0 6 0 0 0 9"])
         self.assertEqual(self.lines(lambda cases: cases.store(memory_of(5), 0, None)), ["store 0 0 0 0 0 0 0 0 0"])
         self.assertEqual(self.lines(lambda cases: cases.store(memory_of(5), 1, 6)), ["store 17 1 0 0 0 5 0 0 0"])
         self.assertEqual(self.lines(lambda cases: cases.listing(loadpc(5), 31)), [
             "listed 0 record 0 bytes 16", "0: r5 := Loadpc", "." * 15])
-        self.assertEqual(self.lines(lambda cases: cases.operate(DIV, 7, 0)), ["result undefined"])
+        self.assertEqual(self.lines(lambda cases: cases.operate(DIV, 7, 0)), ["result -"])
 
     def test_numbers_never_change(self):
         rng = g.Random()

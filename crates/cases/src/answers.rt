@@ -17,29 +17,22 @@ fn report(program: &[u8], memory: &mut [u8], schedule: &[u8]) {
 fn in_order(program: &[u8], memory: &mut [u8], budget: u32) {
     let ran = InOrder::start().run(program, memory, budget);
     let machine = ran.machine;
-    show::field(b"executed ", ran.executed as u64);
-    show::field(b" stop ", ran.stop as u64);
-    show::line(b" record ", ran.number as u64);
+    show::executed(ran.executed, ran.stop, ran.number);
     show::contents(states::of_machine(machine), &memory[..]);
 }
 
 fn drain(program: &[u8], memory: &mut [u8], state: State) {
     let settled = renaming::drain(state, program, memory);
     let last = settled.state;
-    show::field(b"drained ", settled.rules as u64);
-    show::field(b" refused ", settled.refusal as u64);
-    show::field(b" record ", settled.number as u64);
-    show::line(b" address ", settled.address.0 as u64);
+    let address = settled.address;
+    show::drained(settled.rules, address, settled.refusal, settled.number);
     show::state(last, &memory[..]);
 }
 
-fn run_and_drain(program: &[u8], memory: &mut [u8], schedule: &[u8], start: State) {
-    let ran = renaming::run(start, program, memory, schedule);
+fn run_and_drain(program: &[u8], memory: &mut [u8], schedule: &[u8], given: &[u8]) {
+    let ran = renaming::run(states::read(given), program, memory, schedule);
     let state = ran.state;
-    show::field(b"accepted ", ran.accepted as u64);
-    show::field(b" issued ", ran.issued as u64);
-    show::field(b" refused ", ran.refusal as u64);
-    show::line(b" record ", ran.number as u64);
+    show::accepted(ran.accepted, ran.issued, ran.refusal, ran.number);
     show::state(state, &memory[..]);
     drain(program, memory, state);
 }
@@ -47,15 +40,14 @@ fn run_and_drain(program: &[u8], memory: &mut [u8], schedule: &[u8], start: Stat
 fn step(program: &[u8], memory: &mut [u8], record: &[u8], before: State) -> State {
     let stepped = renaming::step(before, program, memory, record);
     let state = stepped.state;
-    show::field(b"refused ", stepped.refusal as u64);
-    show::line(b" record ", stepped.number as u64);
+    show::refused(stepped.refusal, stepped.number);
     show::state(state, &memory[..]);
     state
 }
 
 // The last record may be short.
-fn steps(program: &[u8], memory: &mut [u8], schedule: &[u8], start: State) {
-    let mut state = start;
+fn steps(program: &[u8], memory: &mut [u8], schedule: &[u8], given: &[u8]) {
+    let mut state = states::read(given);
     let mut rest = schedule;
     while rest.len() >= 4 {
         state = step(program, memory, &rest[..4], state);
@@ -108,8 +100,8 @@ pub fn print(head: Record, program: &[u8], memory: &mut [u8], schedule: &[u8], g
     match kind {
         0 => report(program, memory, schedule),
         1 => in_order(program, memory, head.word),
-        2 => run_and_drain(program, memory, schedule, states::read(given)),
-        3 => steps(program, memory, schedule, states::read(given)),
+        2 => run_and_drain(program, memory, schedule, given),
+        3 => steps(program, memory, schedule, given),
         4 => look(program, &memory[..], head.word),
         5 => write(memory, given),
         6 => store(memory, head.word, given),

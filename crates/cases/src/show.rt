@@ -2,6 +2,7 @@
 use crate::bytes;
 use cells::Loaded;
 use isa::Instr;
+use isa::InstrAddr;
 use isa::Reading;
 use isa::Tag;
 use records::Verdict;
@@ -42,6 +43,32 @@ pub fn verdict(name: &[u8], v: Verdict) {
     line(b" record ", v.number as u64);
 }
 
+// What a step answers, and the end of a run's and a drain's line.
+pub fn refused(refusal: u8, number: usize) {
+    field(b"refused ", refusal as u64);
+    line(b" record ", number as u64);
+}
+
+pub fn executed(instructions: u32, stop: u8, number: usize) {
+    field(b"executed ", instructions as u64);
+    field(b" stop ", stop as u64);
+    line(b" record ", number as u64);
+}
+
+pub fn accepted(records: usize, issues: usize, refusal: u8, number: usize) {
+    field(b"accepted ", records as u64);
+    field(b" issued ", issues as u64);
+    put(b" ");
+    refused(refusal, number);
+}
+
+pub fn drained(rules: usize, address: InstrAddr, refusal: u8, number: usize) {
+    field(b"drained ", rules as u64);
+    field(b" address ", address.0 as u64);
+    put(b" ");
+    refused(refusal, number);
+}
+
 // An instruction by the fields of its record, 0 where it has none.
 fn fields(name: &[u8], r: u8, r1: u8, r2: u8, constant: u32) {
     field(name, r as u64);
@@ -69,9 +96,10 @@ pub fn reading(name: &[u8], r: Reading) {
     }
 }
 
+// A dash where it is undefined.
 pub fn value(v: Value) {
     match v {
-        Value::Undefined => put(b" undefined"),
+        Value::Undefined => put(b" -"),
         Value::Word(w) => field(b" ", w as u64),
     }
 }
@@ -101,16 +129,17 @@ fn work(name: &[u8], t: Tag, n: u8, first: Operand, second: Operand) {
     put(b"\n");
 }
 
+// The address, then the rest as in `12: Op 3 0 t1 -`.
 fn template(x: Template) {
     let none = Operand::Known(Value::Undefined);
     let w = x.work;
-    field(b"template ", x.address.0 as u64);
+    io::print_decimal(1, x.address.0 as u64);
     match w {
-        Work::Done(t, v) => work(b" value ", t, 0, Operand::Known(v), none),
-        Work::Op(t, n, a, b) => work(b" Op ", t, n, a, b),
-        Work::Jz(a, b) => work(b" Jz ", Tag(0), 0, a, b),
-        Work::Load(t, a) => work(b" Load ", t, 0, a, none),
-        Work::Store(a, b) => work(b" Store ", Tag(0), 0, a, b),
+        Work::Done(t, v) => work(b": value ", t, 0, Operand::Known(v), none),
+        Work::Op(t, n, a, b) => work(b": Op ", t, n, a, b),
+        Work::Jz(a, b) => work(b": Jz ", Tag(0), 0, a, b),
+        Work::Load(t, a) => work(b": Load ", t, 0, a, none),
+        Work::Store(a, b) => work(b": Store ", Tag(0), 0, a, b),
     }
 }
 

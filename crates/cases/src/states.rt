@@ -3,11 +3,13 @@ use crate::bytes;
 use inorder::InOrder;
 use isa::Instr;
 use isa::InstrAddr;
+use isa::REGISTERS;
 use isa::Reg;
 use isa::Tag;
 use records::Record;
 use templates::Counter;
 use templates::Operand;
+use templates::PLACES;
 use templates::Register;
 use templates::State;
 use templates::Template;
@@ -47,12 +49,15 @@ fn operand_of(r: Record) -> Operand {
 fn work_of(head: Record, first: Record, second: Record) -> Work {
     let kind = head.b0;
     let tag = Tag(head.b1);
+    let v = value_of(first);
+    let a = operand_of(first);
+    let b = operand_of(second);
     match kind {
-        0 => Work::Done(tag, value_of(first)),
-        1 => Work::Op(tag, head.b2, operand_of(first), operand_of(second)),
-        2 => Work::Jz(operand_of(first), operand_of(second)),
-        3 => Work::Load(tag, operand_of(first)),
-        _ => Work::Store(operand_of(first), operand_of(second)),
+        0 => Work::Done(tag, v),
+        1 => Work::Op(tag, head.b2, a, b),
+        2 => Work::Jz(a, b),
+        3 => Work::Load(tag, a),
+        _ => Work::Store(a, b),
     }
 }
 
@@ -68,12 +73,12 @@ fn template(b: &[u8], place: u8) -> Template {
 }
 
 // Rows that are left out are read as zeros: here an undefined register, below a blank place.
-fn registers(b: &[u8]) -> [Register; 32] {
+fn registers(b: &[u8]) -> [Register; REGISTERS] {
     let mut rf = [Register {
         holds: Operand::Known(Value::Undefined),
-    }; 32];
+    }; REGISTERS];
     let mut r: usize = 0;
-    while r < 32 {
+    while r < REGISTERS {
         let o = operand_of(bytes::record(b, 4 * r + 1));
         rf[r] = Register { holds: o };
         r += 1;
@@ -81,10 +86,10 @@ fn registers(b: &[u8]) -> [Register; 32] {
     rf
 }
 
-fn table(b: &[u8]) -> [Template; 64] {
-    let mut ts = [templates::table::blank(); 64];
+fn table(b: &[u8]) -> [Template; PLACES] {
+    let mut ts = [templates::leaf::blank(); PLACES];
     let mut place: u8 = 0;
-    while place < 64 {
+    while place < PLACES {
         ts[place as usize] = template(b, place);
         place += 1;
     }
@@ -110,12 +115,12 @@ pub fn read(b: &[u8]) -> State {
     }
 }
 
-fn known(given: [inorder::Register; 32]) -> [Register; 32] {
+fn known(given: [inorder::Register; REGISTERS]) -> [Register; REGISTERS] {
     let mut rf = [Register {
         holds: Operand::Known(Value::Undefined),
-    }; 32];
+    }; REGISTERS];
     let mut r: usize = 0;
-    while r < 32 {
+    while r < REGISTERS {
         let x = given[r];
         let v = x.value;
         rf[r] = Register {
@@ -133,7 +138,7 @@ pub fn of_machine(m: InOrder) -> State {
     State {
         counter: Counter::At(at),
         registers: known(given),
-        templates: [templates::table::blank(); 64],
+        templates: [templates::leaf::blank(); PLACES],
         count: 0,
     }
 }

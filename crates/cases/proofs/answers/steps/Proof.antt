@@ -7,10 +7,13 @@ use Rattle.cases.proofs.answers.steps.Statement.{statement}
 use Rattle.cases.proofs.answers.steps.Tie as tie
 
 abbrev Inv-loop : tie.InvT-loop
-Inv-loop program memory₀ schedule state₀ rest₀ memory state rest = length memory ≡ length memory₀
+Inv-loop program memory₀ schedule given state₀ rest₀ memory state rest = length memory ≡ length memory₀
 
 abbrev μ-loop : tie.MeasureT-loop
-μ-loop program memory₀ schedule state₀ rest₀ memory state rest = length rest
+μ-loop program memory₀ schedule given state₀ rest₀ memory state rest = length rest
+
+read-requires : tie.Need-read-requires Inv-loop μ-loop
+read-requires c κs = search needs
 
 loop-holds : tie.Need-loop-holds Inv-loop μ-loop
 loop-holds c = search needs
@@ -57,6 +60,7 @@ steps-spec =
     (tie.spec
     Inv-loop
     μ-loop
+    read-requires
     loop-holds
     slice-aggregate-step
     step-requires
