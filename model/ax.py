@@ -60,7 +60,7 @@ OPERATIONS = (
 
 
 def result(operation, first, second):
-    """The value of an operation on two values; a number that is no operation makes no word."""
+    """The value of an operation on two values; a number that is no operation makes no word (docs/DECISIONS.md)."""
     if first is None or second is None or operation >= len(OPERATIONS):
         return None
     return OPERATIONS[operation][1](first, second)
@@ -121,7 +121,7 @@ def write_instruction(instruction, output):
 
 
 def fetch(program, address):
-    """The refusal (0 if none) and the instruction at an address."""
+    """The refusal (0 if none) and the instruction at an address; 2 where it is malformed (docs/DECISIONS.md)."""
     if address >= len(program) // 8:
         return Refusal.NO_INSTRUCTION, None
     return read_instruction(records(program, 8)[address])
@@ -144,6 +144,7 @@ def scan_memory(memory):
 # Memory: a bytearray of cells, kept in the records' form throughout.
 
 def load_cell(memory, address):
+    """The value of a cell; another mark than 1 is undefined (docs/DECISIONS.md)."""
     cell = memory[8 * address:8 * address + 8]
     return int.from_bytes(cell[4:8], "little") if cell[0] == 1 else None
 

@@ -6,8 +6,8 @@ schedule, and what else the kind is given. The kinds:
 
 0  the report of a program, a memory and a schedule
 1  an in-order run of as many instructions as the word says
-2  a run, then a drain, from the state in the last part, each with the whole state that it leaves
-3  a step for each record of the schedule, from the state in the last part, each with the whole state that it leaves
+2  a run, then a drain, from the state in the last part, each with the templates, counter and registers that it leaves
+3  a step for each record of the schedule, from the state in the last part, each with the templates, counter and registers that it leaves
 4  what is read of a program and of a memory: both judged, and what stands at the address in the word
 5  the instruction in the last part, written to the output
 6  the value in the last part, stored at the address in the word
@@ -920,7 +920,7 @@ def unsound_tags():
     yield TWO, state_of((t_store(0, 0),), ((4, Tag(0)),))
 
 
-def unsound_operands():
+def operand_edges():
     waiting = (lambda t: t_op(2, t, 1), lambda t: t_op(2, 1, t), lambda t: t_load(2, t), lambda t: t_store(t, 1),
                lambda t: t_store(1, t), lambda t: t_jz(t, 1), lambda t: t_jz(1, t))
     for make, tag in itertools.product(waiting, (0, 1, 2, 3, 65)):
@@ -945,7 +945,7 @@ def unsound_stalls():
     yield TWO, state_of((t_value(1, 1), branch), count=1, counter=0)
 
 
-def unsound_fields():
+def field_edges():
     for address in (1, 2, 3, EIGHTH, LAST):
         for template in (t_value(1, 1, address), t_op(1, 1, 1, 0, address), t_load(1, 0, address),
                          t_store(0, 0, address), t_jz(1, 1, address)):
@@ -957,7 +957,7 @@ def unsound_fields():
         yield TWO, state_of((t_value(2, 1), t_op(1, 1, 1, operation), t_value(3, 1)))
 
 
-def unsound_blanks():
+def blank_edges():
     others = (ax.BLANK._replace(address=1), ax.BLANK._replace(tag=1), ax.BLANK._replace(first=0), t_value(3, 7),
               ax.BLANK._replace(kind=OP), t_jz(None, None), t_load(0, None), t_store(None, None), ax.BLANK)
     for other, place in itertools.product(others, (1, 2, 63)):
@@ -976,7 +976,7 @@ def unsound_blanks():
 
 
 def soundness(cases, rng):
-    groups = (sound_edges(), unsound_tags(), unsound_operands(), unsound_stalls(), unsound_fields(), unsound_blanks())
+    groups = (sound_edges(), unsound_tags(), operand_edges(), unsound_stalls(), field_edges(), blank_edges())
     for program, state in itertools.chain(*groups):
         cases.handed(program, memory_of(4, None), issue(60), state, rng.choose((0, 0, 3)))
         cases.steps(program, memory_of(4, None), bytes(4), state)  # 4 comes before 5
@@ -1203,7 +1203,7 @@ def listings(cases, rng):
         cases.listing(loadc(31, LAST) * count, room)
 
 
-# Single steps, with the whole state after each.
+# Single steps, with templates, counter and registers after each.
 
 def full_run_by_steps(cases, rng):
     """The scope paper's run rule by rule; what is refused before any rule; 64 issues and one more."""
@@ -1285,7 +1285,7 @@ def access_steps(cases, rng):
 
 
 def unsound_steps(cases, rng):
-    """States of two templates, each but three wrong in one thing, with a record that is malformed: 4 comes before 5."""
+    """States of two templates or none, each but four wrong in one thing, with a record that is malformed: 4 comes before 5."""
     two, words = program_of(loadc(1, 6), loadc(2, 0)), ((0, 1), (1, 2))
     sixes = (t_value(1, 6), t_value(2, 6))
     branch = t_jz(7, 0)

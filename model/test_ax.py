@@ -486,7 +486,7 @@ class Generator(unittest.TestCase):
         case = g.encode_case(3, (b"program", b"", b"schedule", b"rest"), 7, LAST)
         self.assertEqual(g.decode_case(case), (3, 7, LAST, [b"program", b"", b"schedule", b"rest"]))
 
-    def test_a_step_shows_the_whole_state(self):
+    def test_a_step_shows_templates_counter_and_registers(self):
         program = program_of(loadc(1, 6), op(2, 1, 9, DIV))
         self.assertEqual(self.lines(lambda cases: cases.steps(program, memory_of(None, 7), issues(1, 2) + b"\1")), [
             "refused 0 record 0", "0: value 1 0 6 -", "pc 1", "r1 t1", "m1 7",

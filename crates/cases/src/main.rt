@@ -5,8 +5,8 @@
 //
 // kind 0: the report of a program, a memory and a schedule
 // kind 1: an in-order run of as many instructions as the word says
-// kind 2: a run, then a drain, from the state in the last part, each with the whole state that it leaves
-// kind 3: a step for each record of the schedule, from the state in the last part, each with the whole state that it leaves
+// kind 2: a run, then a drain, from the state in the last part, each with the templates, counter and registers that it leaves
+// kind 3: a step for each record of the schedule, from the state in the last part, each with the templates, counter and registers that it leaves
 // kind 4: what is read of a program and of a memory: both judged, and what stands at the address in the word
 // kind 5: the instruction in the last part, written to the output
 // kind 6: the value in the last part, stored at the address in the word

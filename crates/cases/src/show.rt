@@ -7,6 +7,7 @@ use isa::Reading;
 use isa::Tag;
 use records::Verdict;
 use templates::Operand;
+use templates::PLACES;
 use templates::State;
 use templates::Template;
 use templates::Work;
@@ -131,7 +132,7 @@ fn work(name: &[u8], t: Tag, n: u8, first: Operand, second: Operand) {
 
 // The address, then the rest as in `12: Op 3 0 t1 -`.
 fn template(x: Template) {
-    let none = Operand::Known(Value::Undefined);
+    let none = Operand::Known(value::UNDEFINED);
     let w = x.work;
     io::print_decimal(1, x.address.0 as u64);
     match w {
@@ -143,9 +144,9 @@ fn template(x: Template) {
     }
 }
 
-fn table(ts: [Template; 64], count: usize) {
+fn table(ts: [Template; PLACES], count: usize) {
     let mut place: usize = 0;
-    while place < 64 {
+    while place < PLACES {
         if place >= count {
             return;
         }

@@ -33,7 +33,7 @@ pub fn value_of(r: Record) -> Value {
     if r.b0 == 1 {
         Value::Word(r.word)
     } else {
-        Value::Undefined
+        value::UNDEFINED
     }
 }
 
@@ -75,7 +75,7 @@ fn template(b: &[u8], place: u8) -> Template {
 // Rows that are left out are read as zeros: here an undefined register, below a blank place.
 fn registers(b: &[u8]) -> [Register; REGISTERS] {
     let mut rf = [Register {
-        holds: Operand::Known(Value::Undefined),
+        holds: Operand::Known(value::UNDEFINED),
     }; REGISTERS];
     let mut r: usize = 0;
     while r < REGISTERS {
@@ -86,10 +86,13 @@ fn registers(b: &[u8]) -> [Register; REGISTERS] {
     rf
 }
 
+// The table's places, as wide as a place in a record.
+const ROWS: u8 = 64;
+
 fn table(b: &[u8]) -> [Template; PLACES] {
     let mut ts = [templates::leaf::blank(); PLACES];
     let mut place: u8 = 0;
-    while place < PLACES {
+    while place < ROWS {
         ts[place as usize] = template(b, place);
         place += 1;
     }
@@ -117,7 +120,7 @@ pub fn read(b: &[u8]) -> State {
 
 fn known(given: [inorder::Register; REGISTERS]) -> [Register; REGISTERS] {
     let mut rf = [Register {
-        holds: Operand::Known(Value::Undefined),
+        holds: Operand::Known(value::UNDEFINED),
     }; REGISTERS];
     let mut r: usize = 0;
     while r < REGISTERS {

@@ -7,7 +7,7 @@ use mathlib.Core.Bool.{Bool, true, false, cond, _&&_, _||_}
 use mathlib.Core.List.{List, [], _∷_, map}
 use mathlib.Core.Option.{none, some, Option·map}
 use lib.Dec.{eqb}
-use lib.ListN.{length, getD, set, getElem?}
+use lib.ListN.{length, getD, set, getElem?, length-map}
 use lib.Seq.{sets, set-out}
 use borrow.Author.Tests.{eqb-true, eq-eqb, le-leb, le-ltb}
 use Rattle.records.specs.declared.Record.{Record}
@@ -30,10 +30,6 @@ map-at f [] n = refl
 map-at f (x ∷ xs) zero = refl
 map-at f (x ∷ xs) (suc n) = map-at f xs n
 
-length-map : {A B : Type 0} (f : A → B) (xs : List A) → length (map f xs) ≡ length xs
-length-map f [] = refl
-length-map f (x ∷ xs) = ap suc (length-map f xs)
-
 module _ (b : List ℕ) (n : ℕ) where
   pub cell-at : {r : Record} → getElem? (records b) n ≡ some r → getElem? (cells b) n ≡ some (valueOf r)
   unfolding cells
@@ -45,7 +41,7 @@ module _ (b : List ℕ) (n : ℕ) where
 
 pub length-cells : (b : List ℕ) → length (cells b) ≡ length b / 8
 unfolding cells
-length-cells b = length-map valueOf (records b) ∙ length-records b
+length-cells b = length-map (records b) valueOf ∙ length-records b
 
 map-set : {A B : Type 0} (f : A → B) (xs : List A) (i : ℕ) (x : A) → map f (set xs i x) ≡ set (map f xs) i (f x)
 map-set f [] zero x = refl
@@ -111,7 +107,7 @@ pub scan-image : (m : List Value) → Words m → length m ≤ 1024 → scanOf (
 unfolding scanOf image
 scan-image m w h =
     let rs = map recordOf m in
-    let long : length (Records.image rs) ≡ 8 * length m = length-image rs ∙ ap (λ (n : ℕ). 8 * n) (length-map recordOf m) in
+    let long : length (Records.image rs) ≡ 8 * length m = length-image rs ∙ ap (λ (n : ℕ). 8 * n) (length-map m recordOf) in
     let whole : length (Records.image rs) % 8 ≡ 0 = omega arith in
     let few : length (Records.image rs) ≤ 8192 = omega arith in
     let count : length (Records.image rs) / 8 ≤ leading isCell (records (Records.image rs)) =
@@ -147,7 +143,7 @@ module _ (b : List ℕ) (a : ℕ) (v : Value) where
       inside (yes l) =
           replaced-at b a (recordOf v) l
           ∙ sym (same (Records.image rs) f)
-          ∙ image-set rs a (recordOf v) (rw (length-map recordOf (cells b), length-cells b) l)
+          ∙ image-set rs a (recordOf v) (rw (length-map (cells b) recordOf, length-cells b) l)
           ∙ ap Records.image (sym (map-set recordOf (cells b) a v))
       inside (no l) =
           replaced-past b a (recordOf v) (omega arith)

@@ -23,8 +23,8 @@ use Rattle.isa.specs.Instruction as Instruction
 use Rattle.isa.specs.Program.{program}
 use Rattle.cells.specs.Cells.{cells, image, recordOf, storing}
 use Rattle.kernel.specs.Kernel.{dataAddr, writeAt, number, written}
-use Rattle.kernel.specs.Checks.{first, checked}
-use Rattle.kernel.proofs.Checking.{refuses, works, checked-memory}
+use Rattle.kernel.specs.Checks.{checked}
+use Rattle.kernel.proofs.Checking.{both-accept, refuses, works, checked-memory}
 use Rattle.kernel.proofs.Writing.{store-number}
 use Rattle.listing.specs.declared.Listed.{Listed}
 use Rattle.listing.specs.Listing as Listing
@@ -59,16 +59,9 @@ use Rattle.rules.proofs.Accepted.{run-accepts, allowed-accepted}
 -- ---- a check and what it guards
 
 -- the checks of program and memory come first
-first-passed : (v w : Verdict) → first v w .refusal ≡ 0 → v .refusal ≡ 0
-first-passed v w = go (eqb (v .refusal) 0) refl
-  where
-    go : (t : Bool) → eqb (v .refusal) 0 ≡ t → cond t w v .refusal ≡ 0 → v .refusal ≡ 0
-    go true e h = eqb-true (v .refusal) 0 e
-    go false e h = h
-
 pub entered-checked : (p b : List ℕ) (s : State) → entered p b s .refusal ≡ 0 → checked p b .refusal ≡ 0
 unfolding entered
-entered-checked p b s = first-passed (checked p b) (cond (isSound (length p / 8) s) accepted (verdict unsound 0))
+entered-checked p b s h = both-accept (checked p b) (cond (isSound (length p / 8) s) accepted (verdict unsound 0)) h .0
 
 -- a record's, or a schedule's, length goes before them
 pub length-passed : (t : Bool) (v : Verdict) → cond t v (verdict 1 0) .refusal ≡ 0 → v .refusal ≡ 0

@@ -111,9 +111,3 @@ module _ (prog : List Instr) (formed : AllFormed prog) where
       (λ c cs σ m s.
       on-each _ _ (λ τ l h. (h .1, λ σ′ m′ g. (g .0 ∙ ap (steps prog (issues cs)) (h .0) ∙ steps-counted c (issues cs) (outcome σ m), g .1))) (obey prog c σ m)
       (on-both _ _ (obey prog c σ m) (obey-steps c σ m s) (obey-keeps-sound prog formed σ m s c)))
-
-  -- so a stopped outcome stays stopped
-  pub stopped-for-good : (cs : List Command) (σ : Mach) (m : List Value) {ia : InstrAddr} {why : ℕ} {l : List Value} → Sound (length prog) σ
-      → outcome σ m ≡ stopped ia why l → OnStep (λ σ′ m′. outcome σ′ m′ ≡ stopped ia why l) (obeyed prog cs σ m)
-  stopped-for-good cs σ m {ia} {why} {l} s e =
-      on-each _ _ (λ σ′ m′ h. h .0 ∙ ap (steps prog (issues cs)) e ∙ stays prog (issues cs) ia why l) (obeyed prog cs σ m) (obeyed-steps cs σ m s)

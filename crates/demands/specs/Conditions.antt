@@ -10,6 +10,7 @@ use lib.ListN.{length, getD, take, drop, getElem?}
 use Rattle.records.specs.Refusal.{badSchedule, noInstruction, stalled, full, badTag, noTemplate, otherKind, needsTag, notHeld, stillHeld, earlierMemory, isUndefined, outside, otherWay}
 use Rattle.value.specs.declared.Value.{Value}
 use Rattle.value.specs.declared.Value.the-variants.{Undefined, Word}
+use Rattle.value.specs.Operation.{undefined}
 use Rattle.isa.specs.declared.Tag.{Tag}
 use Rattle.isa.specs.declared.Instr.{Instr}
 use Rattle.isa.specs.declared.Instr.the-variants as Instr
@@ -59,7 +60,7 @@ isKnown (Waits t) = false
 
 abbrev pub valueIn : Operand → Value
 valueIn (Known v) = v
-valueIn (Waits t) = Undefined
+valueIn (Waits t) = undefined
 
 abbrev pub isDefined : Value → Bool
 isDefined Undefined = false

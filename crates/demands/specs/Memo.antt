@@ -17,14 +17,12 @@ use Rattle.isa.specs.declared.Instr.the-variants as Instr
 use Rattle.kernel.specs.Kernel.{instrAddr, next}
 use Rattle.templates.specs.declared.Operand.{Operand}
 use Rattle.templates.specs.declared.Operand.the-variants.{Known, Waits}
-use Rattle.templates.specs.declared.Work.{Work}
 use Rattle.templates.specs.declared.Work.the-variants.{Done, Op, Jz, Load, Store}
 use Rattle.templates.specs.declared.Register.{Register}
 use Rattle.templates.specs.declared.Counter.{Counter}
 use Rattle.templates.specs.declared.Counter.the-variants.{At, Stall}
 use Rattle.templates.specs.Templates.{noTag, anyReg, fillRegs, contents, put}
-use Rattle.templates.specs.Machine.{Itb, ITB, anyMakes, anyHolds, anyMemory, fillAll, Mach, mach, room}
-use Rattle.sound.specs.Sound.{lastTag}
+use Rattle.templates.specs.Machine.{Itb, ITB, anyMakes, anyHolds, anyMemory, fillAll, Mach, mach, room, lastTag}
 use Rattle.rules.specs.declared.Rule.the-variants as Rule
 use Rattle.rules.specs.declared.Command.{Command}
 use Rattle.rules.specs.declared.Command.the-variants.{Issue, Apply}
@@ -38,7 +36,7 @@ Proc pc rf itbs = mach pc rf itbs
 abbrev pub Fetches : List Instr → InstrAddr → Instr → Type 0
 Fetches prog ia i = getElem? prog (ia .0) ≡ some i
 
--- room for one more template: the table has 64
+-- room for one more template
 abbrev pub Room : List Itb → Type 0
 Room itbs = length itbs < room
 

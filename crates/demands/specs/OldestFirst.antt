@@ -1,6 +1,5 @@
 -- The oldest-first sequence: the lowest place with an allowed rule other than issue, there the lowest rule number, until none.
 use mathlib.Core.Path.{_≡_}
-use Prim.Native.Nat.{ℕ}
 use mathlib.Core.List.{List, [], _∷_}
 use lib.ListN.{length}
 use Rattle.value.specs.declared.Value.{Value}

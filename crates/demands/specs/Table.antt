@@ -7,8 +7,8 @@ use lib.ListN.{length}
 use Rattle.records.specs.Refusal.{badInstruction, stillHeld, earlierMemory}
 use Rattle.records.specs.Try.{Try, got, fails}
 use Rattle.value.specs.declared.Value.{Value}
-use Rattle.value.specs.declared.Value.the-variants.{Undefined, Word}
-use Rattle.value.specs.Operation.{result}
+use Rattle.value.specs.declared.Value.the-variants.{Word}
+use Rattle.value.specs.Operation.{undefined, result}
 use Rattle.isa.specs.declared.Tag.{Tag}
 use Rattle.isa.specs.declared.Instr.{Instr}
 use Rattle.isa.specs.declared.Instr.the-variants as Instr
@@ -76,7 +76,7 @@ table =
     -- P3 Div: -7 by 2 is -3
     computes 3 (Word 4294967289) (Word 2) (Word 4294967293) ∷
     -- P4 Div
-    computes 3 (Word 7) (Word 0) Undefined ∷
+    computes 3 (Word 7) (Word 0) undefined ∷
     -- P5 Less: -1 is smaller than 0
     computes 4 (Word 4294967295) (Word 0) (Word 1) ∷
     -- P6 Mul
@@ -101,7 +101,7 @@ table =
     obeys (Instr.Store (reg 2) (reg 1) ∷ Instr.Load (reg 1) (reg 3) ∷ [])
     (Apply Rule.Load 1)
     (mach (At (instrAddr 2)) (r1 (Waits (tag 1))) (from 0 (Store (word 0) (word 5)) ∷ from 1 (Load (tag 1) (word 0)) ∷ []))
-    (Undefined ∷ [])
+    (undefined ∷ [])
     (refused earlierMemory) ∷
     -- P12 no-jump on Jz(7, t1): the target is still a tag
     obeys (Instr.Loadc (reg 1) 6 ∷ Instr.Jz (reg 2) (reg 1) ∷ [])

@@ -19,4 +19,5 @@ entered p b s = first (checked p b) (cond (isSound (length p / 8) s) accepted (v
 -- the verdict, of a state whose table has its places
 pub record Enters (p b : List ℕ) (s : State) (v : Verdict) : Type 0 where
   pub verdict : v ≡ entered p b s
+  -- of the state that was handed in: those who call need it
   pub long : length (s .templates) ≡ places

@@ -7,7 +7,6 @@ use mathlib.Core.List.{List}
 use lib.Dec.{eqb}
 use lib.ListN.{getD}
 use Rattle.records.specs.declared.Verdict.{Verdict}
-use Rattle.value.specs.declared.Value.{Value}
 use Rattle.isa.specs.declared.Instr.{Instr}
 use Rattle.isa.specs.Program.{program}
 use Rattle.cells.specs.Cells.{cells, image}
@@ -18,7 +17,7 @@ use Rattle.inorder.specs.declared.InOrder.{InOrder}
 use Rattle.inorder.specs.declared.Stepped.{Stepped}
 use Rattle.inorder.specs.declared.Ran.{Ran}
 use Rattle.inorder.specs.Machine.{once, after, memory}
-use Rattle.inorder.specs.Entries.{entered, stepped, steppedMemory, Steps, End, proceed, runFrom, ended, ran, ranMemory, Goes, Runs}
+use Rattle.inorder.specs.Entries.{entered, stepped, steppedMemory, Steps, proceed, runFrom, ended, ran, ranMemory, Goes, Runs}
 
 module _ (p : List ℕ) (s : InOrder) (b : List ℕ) {v : Verdict} (c : v ≡ entered p b s) (budget : ℕ) where
   pub run-refused : v .refusal ≢ 0 → Runs p s b budget (record { machine = s; executed = 0; stop = v .refusal; number = v .number }) b

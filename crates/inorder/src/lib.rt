@@ -67,7 +67,7 @@ impl InOrder {
         }
     }
 
-    // The run of a program and a memory that were checked, on one machine that is changed in place: each arm ends its turn.
+    // The run of a program and a memory that were checked, on one machine that is changed in place: each arm counts and sets the counter itself.
     fn go(self, program: &[u8], memory: &mut [u8], budget: u32) -> Ran
         requires { ⌜ scanOf (now program) ≡ accepted ⌝ }
         ensures { λ r. ⌜ Goes (now (program .entry)) self (now (memory .entry)) budget r (now (memory .exit)) ⌝ }

@@ -9,15 +9,17 @@ use records::Record;
 use records::Verdict;
 use records::refusal;
 
-// Registers are 0 to one below this, as an array's length and as a register's name.
+// Registers are 0 to one below this.
 pub const REGISTERS: usize = 32;
 
-const NAMES: u8 = 32;
+// The same, as wide as a register's name.
+const REGISTER_NAMES: u8 = 32;
 
-// Operations are 0 to this one, as an instruction has it and as its record does.
+// Operations are 0 to this one.
 pub const LAST_OPERATION: u8 = 4;
 
-const LAST_IN_RECORD: u32 = 4;
+// The same, as wide as a record's word.
+const LAST_OPERATION_IN_RECORD: u32 = 4;
 
 // A place in the program.
 pub struct InstrAddr(pub u32);
@@ -51,15 +53,15 @@ fn is_formed(i: Instr) -> bool
     ensures { λ r. ⌜ r ≡ isFormed i ⌝ }
 {
     match i {
-        Instr::Loadc(r, _) => r.0 < NAMES,
-        Instr::Loadpc(r) => r.0 < NAMES,
-        Instr::Op(r, op, r1, r2) => (r.0 < NAMES)
-            & (r1.0 < NAMES)
-            & (r2.0 < NAMES)
+        Instr::Loadc(r, _) => r.0 < REGISTER_NAMES,
+        Instr::Loadpc(r) => r.0 < REGISTER_NAMES,
+        Instr::Op(r, op, r1, r2) => (r.0 < REGISTER_NAMES)
+            & (r1.0 < REGISTER_NAMES)
+            & (r2.0 < REGISTER_NAMES)
             & (op <= LAST_OPERATION),
-        Instr::Jz(r1, r2) => (r1.0 < NAMES) & (r2.0 < NAMES),
-        Instr::Load(r, r1) => (r.0 < NAMES) & (r1.0 < NAMES),
-        Instr::Store(r1, r2) => (r1.0 < NAMES) & (r2.0 < NAMES),
+        Instr::Jz(r1, r2) => (r1.0 < REGISTER_NAMES) & (r2.0 < REGISTER_NAMES),
+        Instr::Load(r, r1) => (r.0 < REGISTER_NAMES) & (r1.0 < REGISTER_NAMES),
+        Instr::Store(r1, r2) => (r1.0 < REGISTER_NAMES) & (r2.0 < REGISTER_NAMES),
     }
 }
 
@@ -86,7 +88,7 @@ fn parse(r: Record) -> Reading
             Instr::Loadpc(Reg(r.b1)),
         ),
         3 => {
-            if k <= LAST_IN_RECORD {
+            if k <= LAST_OPERATION_IN_RECORD {
                 if_formed(true, Instr::Op(Reg(r.b1), k as u8, Reg(r.b2), Reg(r.b3)))
             } else {
                 Reading::Refused(refusal::BAD_INSTRUCTION)
@@ -132,7 +134,7 @@ fn spelled(r: Record) -> Reading
         1 => Reading::Is(Instr::Loadc(Reg(r.b1), k)),
         2 => Reading::Is(Instr::Loadpc(Reg(r.b1))),
         3 => {
-            if k > LAST_IN_RECORD {
+            if k > LAST_OPERATION_IN_RECORD {
                 return Reading::Refused(refusal::BAD_INSTRUCTION);
             }
             Reading::Is(Instr::Op(Reg(r.b1), k as u8, Reg(r.b2), Reg(r.b3)))

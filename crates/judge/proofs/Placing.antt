@@ -4,8 +4,7 @@ use mathlib.Core.Logic.{_≢_}
 use Prim.Native.Nat.{ℕ, suc, _≤_, _<_, min}
 use native.Mathlib.Omega.{arith}
 use mathlib.Core.List.{List}
-use lib.ListN.{length, getD, take, drop, length-take, length-map, List·getD-map}
-use lib.Seq.{take-take, getD-take}
+use lib.ListN.{length, getD, take, drop, length-take, length-map}
 use borrow.Author.Tests.{lt-ltb, le-ltb, eq-eqb, ne-eqb}
 use mir.Val.{Val}
 use denote.Laws.{Is}
@@ -18,7 +17,7 @@ use Rattle.templates.specs.Machine.{Itb, nothing}
 use Rattle.templates.specs.Layout.{places, itb, blank, itbs, machOf}
 use Rattle.templates.proofs.State as T
 use Rattle.templates.proofs.State.Laws as T′
-use Rattle.table.proofs.Placed.{take-map}
+use Rattle.table.proofs.Placed.{itb-at, itbs-before}
 use Rattle.rules.specs.declared.Rule.{Rule}
 use Rattle.rules.specs.Drain.{refusalAt}
 use Rattle.rules.specs.Judge.{kind, wants, conditions, judged}
@@ -44,8 +43,8 @@ module _ (s : State) (long : length (s .templates) ≡ places) (r : Rule) (p : �
 
     pub there : refusalAt r p (machOf s) m ≡ judged r (machOf s) m (itbs (take p (s .templates))) (drop (suc p) held) work
     there =
-        let x = List·getD-map itb (take (s .count) (s .templates)) p blank ∙ ap itb (getD-take (s .count) (s .templates) p blank h) in
-        let pre = take-map itb p (take (s .count) (s .templates)) ∙ ap itbs (take-take p (s .count) (s .templates) (omega arith)) in
+        let x = itb-at (s .count) (s .templates) p h in
+        let pre = sym (itbs-before (s .count) (s .templates) p h) in
         refusal-judged r p (machOf s) m
         ∙ rw (lt-ltb p (length held) (omega (arith, many, h, k)))
         (ap (λ (xs : List Itb). judged r (machOf s) m xs (drop (suc p) held) (getD held p nothing .work)) pre

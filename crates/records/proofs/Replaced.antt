@@ -66,13 +66,6 @@ module _ (b : List ℕ) (at : ℕ) (r : Record) where
       }
 
 module _ (b : List ℕ) (i : ℕ) (r : Record) where
-  pub length-replaced : length (replaced b i r) ≡ length b
-  length-replaced = go (ltb i (length b / 8))
-    where
-      go : (t : Bool) → length (cond t (sets b (8 * i) (bytes r)) b) ≡ length b
-      go true = length-sets b (8 * i) (bytes r)
-      go false = refl
-
   pub replaced-at : i < length b / 8 → replaced b i r ≡ sets b (8 * i) (bytes r)
   replaced-at h = rw (lt-ltb i (length b / 8) h) refl
 

@@ -4,8 +4,8 @@ use Prim.Native.Nat.{ℕ, _+_, _-_, _<_}
 use native.Mathlib.Numerals.{add-one}
 use native.Mathlib.Omega.{arith}
 use mathlib.Core.List.{List, _∷_, _++_}
-use lib.ListN.{length, getD, set, take, List·getD-map}
-use lib.Seq.{split-at, take-suc, take-take, getD-take, append-snoc, set-split}
+use lib.ListN.{length, getD, set, take}
+use lib.Seq.{split-at, take-suc, append-snoc, set-split}
 use Rattle.value.specs.declared.Value.{Value}
 use Rattle.isa.specs.declared.Tag.{Tag}
 use Rattle.templates.specs.declared.Work.{Work}
@@ -18,7 +18,7 @@ use Rattle.templates.specs.Machine.{Itb, ITB, nothing, fillItb, fillAll, mach}
 use Rattle.templates.specs.Layout.{template, itb, blank, fillTemplate, itbs, machOf, stateOf}
 use Rattle.templates.proofs.Places.{placed, held-length, templates-laid}
 use Rattle.table.specs.Table.{among, mapFrom, removed}
-use Rattle.table.proofs.Placed.{take-map, state-set, state-filled, state-removed}
+use Rattle.table.proofs.Placed.{itb-at, itbs-before, state-set, state-filled, state-removed}
 use Rattle.renaming.specs.Answers.{before, behind, Stands}
 
 module _ (s : State) (p : ℕ) (x : Template) (w : Work) (h : Stands s p x w) where
@@ -30,8 +30,8 @@ module _ (s : State) (p : ℕ) (x : Template) (w : Work) (h : Stands s p x w) wh
 
   pub standing : getD held p nothing ≡ ITB (x .address) w
   standing =
-      List·getD-map itb (take (s .count) (s .templates)) p blank
-      ∙ ap itb (getD-take (s .count) (s .templates) p blank (h .place) ∙ sym (h .here))
+      itb-at (s .count) (s .templates) p (h .place)
+      ∙ ap itb (sym (h .here))
       ∙ ap (ITB (x .address)) (h .does)
 
   pub split : before s p ++ ITB (x .address) w ∷ behind s p ≡ held
@@ -39,9 +39,7 @@ module _ (s : State) (p : ℕ) (x : Template) (w : Work) (h : Stands s p x w) wh
 
   -- those before it, in the table and in the machine
   pub before-table : itbs (take p (s .templates)) ≡ before s p
-  before-table =
-      let l = h .place in
-      sym (take-map itb p (take (s .count) (s .templates)) ∙ ap itbs (take-take p (s .count) (s .templates) (omega arith)))
+  before-table = itbs-before (s .count) (s .templates) p (h .place)
 
   module _ (c : Counter) (rf : List Register) where
     pub reworked : (w′ : Work) → placed c rf (set (s .templates) p (template (ITB (x .address) w′))) (s .count)

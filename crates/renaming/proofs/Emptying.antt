@@ -24,7 +24,7 @@ use Rattle.renaming.specs.declared.Answer.{Answer}
 use Rattle.renaming.specs.declared.Settled.{Settled}
 use Rattle.rules.specs.Rules as Rules
 use Rattle.rules.specs.Rules.{Step, refused, apply}
-use Rattle.renaming.specs.Answers.{behind, Stands, at, Fit, Acts}
+use Rattle.renaming.specs.Answers.{behind, Stands, Fit, Acts}
 use Rattle.rules.specs.Drain.{first, rules, firstOf, seek, oldest, Drained, further, drainFrom, drain, due, asks, blocking, blockedAt, refusalAt}
 use Rattle.entry.specs.Entry.{entered}
 use Rattle.renaming.specs.Entries.{settled, drained, drainedMemory, Drains, Empties}

@@ -5,8 +5,7 @@ use Prim.Native.Nat.{ℕ, zero, suc, _/_, _<_}
 use native.Mathlib.Omega.{arith}
 use mathlib.Core.Bool.{Bool, true, false, cond}
 use mathlib.Core.List.{List, [], _∷_}
-use lib.ListN.{length, getD, take, List·getD-map}
-use lib.Seq.{getD-take}
+use lib.ListN.{length, getD}
 use Rattle.records.specs.declared.Verdict.{Verdict}
 use Rattle.records.specs.Refusal.{unsound}
 use Rattle.records.specs.Scan.{verdict, accepted}
@@ -20,6 +19,7 @@ use Rattle.templates.specs.declared.State.{State}
 use Rattle.templates.specs.Machine.{Itb, nothing}
 use Rattle.templates.specs.Layout.{itb, blank, machOf, Laid}
 use Rattle.templates.proofs.Places.{machOf-stateOf, stateOf-laid, held-length}
+use Rattle.table.proofs.Placed.{itb-at}
 use Rattle.sound.specs.Sound.{Produced, none, after, isSound}
 use Rattle.sound.proofs.Soundness.{TemplatesOk, Sound}
 use Rattle.sound.proofs.Decides.{sound-said, sound-laid, sound-machine}
@@ -70,8 +70,7 @@ templates-inside k made (x ∷ xs) h (suc i) l = templates-inside k (after (x .w
 pub fit-within : (p : List ℕ) (s : State) → Program.scanOf p ≡ accepted → Fit p s → Within s
 fit-within p s a f i l =
     let few = program-whole p a .few in
-    let here : getD (machOf s .held) i nothing ≡ itb (getD (s .templates) i blank) =
-    List·getD-map itb (take (s .count) (s .templates)) i blank ∙ ap itb (getD-take (s .count) (s .templates) i blank l) in
+    let here : getD (machOf s .held) i nothing ≡ itb (getD (s .templates) i blank) = itb-at (s .count) (s .templates) i l in
     let inside = templates-inside (length p / 8) none (machOf s .held) (sound-said (length p / 8) (machOf s) .holds (f .sound) .templates) i (omega (arith, held-length s (f .laid))) in
     omega (arith, ap (λ (x : Itb). x .address .0) here)
 

@@ -1,4 +1,4 @@
-// The renaming machine: nine rules, one step, schedules, run and drain.
+// The renaming machine: its nine rules, step, run and drain.
 mod apply;
 mod change;
 mod done;

@@ -27,8 +27,8 @@ use Rattle.templates.specs.declared.Register.{Register}
 use Rattle.templates.specs.declared.Counter.{Counter}
 use Rattle.templates.specs.declared.Counter.the-variants.{At, Stall}
 use Rattle.templates.specs.Templates.{sameTag, register, waits, contents, put, anyReg}
-use Rattle.templates.specs.Machine.{Itb, ITB, anyMakes, fillAll, fillItb, Mach, mach, room}
-use Rattle.sound.specs.Sound.{lastTag, Produced, also, after, afterAll, isJz, anyJz, endsInJz}
+use Rattle.templates.specs.Machine.{Itb, ITB, anyMakes, fillAll, fillItb, Mach, mach, room, lastTag}
+use Rattle.sound.specs.Sound.{Produced, also, after, afterAll, isJz, anyJz, endsInJz}
 use Rattle.sound.specs.Sound as Sound
 use Rattle.sound.proofs.Basics.{by-test, neither, tags-differ}
 use Rattle.sound.proofs.Soundness.{Ready, New, WorkOk, TemplatesOk, Alone, RegistersOk, CounterOk, Sound, templates-left, templates-right, templates-append, produced-append, also-itself, also-keeps, produced-other, none-holds, any-jz-append, no-jz-append, ends-append, ends-parts, straight, jz-last}

@@ -1,4 +1,4 @@
--- A rule's refusal, by what the template's work makes and holds: the scope paper's numbers for no, in its order.
+-- A rule's refusal, by what the template's work makes and holds: the scope paper's numbers for no, in its order, each computed as the code does.
 use Prim.Native.Nat.{ℕ, suc}
 use mathlib.Core.Bool.{Bool, cond, _||_}
 use mathlib.Core.List.{List}
@@ -67,7 +67,7 @@ ifEarlier earlier n = cond earlier earlierMemory n
 abbrev pub addressed : List Value → Operand → ℕ
 addressed m x = needing (λ u. number (readAt m u)) x
 
--- ---- 16 for the condition, 18; then 12 and 16 for the target
+-- ---- 12 and 16 for the condition, 18; then 12 and 16 for the target
 
 -- n if the condition is zero, k if it isn't
 abbrev pub branching : ℕ → ℕ → Value → ℕ

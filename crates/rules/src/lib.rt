@@ -12,7 +12,7 @@ pub enum Rule {
     NoJump,
 }
 
-// A schedule record, read: an issue with a tag, or a rule at a place.
+// A schedule record, read: malformed, an issue with a tag, or a rule at a place.
 pub enum Command {
     Malformed,
     Issue(isa::Tag),

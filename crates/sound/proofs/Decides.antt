@@ -1,6 +1,6 @@
 -- The test of soundness says when a machine, or a state, is sound.
 use Prim.Native.Nat.{ℕ, zero, suc, _-_, _≤_, _<_}
-use mathlib.Core.Path.{_≡_, refl, sym, ap, ap₂, _∙_}
+use mathlib.Core.Path.{_≡_, refl, ap, ap₂, _∙_}
 use mathlib.Core.Bool.{Bool, true, false, _&&_, not, and-eq-true-iff, false≢true}
 use mathlib.Core.List.{List, [], _∷_}
 use lib.Dec.{ltb, leb}
@@ -19,10 +19,10 @@ use Rattle.templates.specs.declared.Counter.{Counter}
 use Rattle.templates.specs.declared.Counter.the-variants.{At, Stall}
 use Rattle.templates.specs.declared.State.{State}
 use Rattle.templates.specs.Templates.{anyReg}
-use Rattle.templates.specs.Machine.{Itb, Mach, room}
+use Rattle.templates.specs.Machine.{Itb, Mach, room, lastTag}
 use Rattle.templates.specs.Layout.{places, blank, lay, machOf, stateOf, Laid}
 use Rattle.templates.proofs.Places.{lay-back, machOf-stateOf, blanks-laid}
-use Rattle.sound.specs.Sound.{lastTag, Produced, none, after, afterAll, isNew, isReady, workOk, templateOk, templatesOk, isAlone, registersOk, anyJz, endsInJz, counterOk, blankWork, isBlank, allBlank, soundMach, isSound}
+use Rattle.sound.specs.Sound.{Produced, none, after, afterAll, isNew, isReady, workOk, templateOk, templatesOk, isAlone, registersOk, anyJz, endsInJz, counterOk, blankWork, isBlank, allBlank, soundMach, isSound}
 use Rattle.sound.proofs.Soundness.{Ready, New, WorkOk, TemplatesOk, Alone, RegistersOk, CounterOk, Sound}
 
 -- the test t says when P holds

@@ -17,8 +17,8 @@ use Rattle.templates.specs.declared.Register.{Register}
 use Rattle.templates.specs.declared.Counter.{Counter}
 use Rattle.templates.specs.declared.Counter.the-variants.{At, Stall}
 use Rattle.templates.specs.Templates.{noTag, sameTag, makes, waits, anyReg}
-use Rattle.templates.specs.Machine.{Itb, ITB, anyMakes, Mach, room}
-use Rattle.sound.specs.Sound.{lastTag, Produced, none, also, after, afterAll, isJz, anyJz, isEmpty, endsInJz}
+use Rattle.templates.specs.Machine.{Itb, ITB, anyMakes, Mach, room, lastTag}
+use Rattle.sound.specs.Sound.{Produced, none, also, after, afterAll, isJz, anyJz, isEmpty, endsInJz}
 use Rattle.sound.proofs.Basics.{neither, tag-itself, tags-differ, either-way}
 
 -- ---- the test's parts as statements

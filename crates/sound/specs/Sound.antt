@@ -17,12 +17,8 @@ use Rattle.templates.specs.declared.Counter.{Counter}
 use Rattle.templates.specs.declared.Counter.the-variants.{At, Stall}
 use Rattle.templates.specs.declared.State.{State}
 use Rattle.templates.specs.Templates.{sameTag, any, anyReg}
-use Rattle.templates.specs.Machine.{Itb, Mach, room}
+use Rattle.templates.specs.Machine.{Itb, Mach, room, lastTag}
 use Rattle.templates.specs.Layout.{machOf}
-
--- tags are 1 to 64
-abbrev pub lastTag : ℕ
-lastTag = 64
 
 -- ---- the tags that have a producer, template by template
 

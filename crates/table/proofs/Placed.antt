@@ -3,18 +3,18 @@ use mathlib.Core.Path.{_≡_, refl, sym, ap, ap₂, _∙_}
 use Prim.Native.Nat.{ℕ, zero, suc, _+_, _-_, _≤_, _<_}
 use native.Mathlib.Omega.{arith}
 use mathlib.Core.List.{List, [], _∷_, _++_, map, map-append, append-assoc}
-use lib.ListN.{length, set, take, drop, replicate, length-append, length-take, length-drop, length-set, length-map}
-use lib.Seq.{set-append-left, set-append-seam}
+use lib.ListN.{length, getD, set, take, drop, replicate, length-append, length-take, length-drop, length-set, length-map, List·getD-map}
+use lib.Seq.{take-take, getD-take, set-append-left, set-append-seam}
 use Rattle.value.specs.declared.Value.{Value}
 use Rattle.isa.specs.declared.Tag.{Tag}
 use Rattle.templates.specs.declared.Counter.{Counter}
-use Rattle.templates.specs.declared.Template.{Template}
 use Rattle.templates.specs.declared.Register.{Register}
 use Rattle.templates.specs.declared.State.{State}
-use Rattle.templates.specs.Machine.{Itb, fillItb, mach}
-use Rattle.templates.specs.Layout.{places, template, blank, fillTemplate, lay, machOf, stateOf, Laid}
+use Rattle.templates.specs.declared.Template.{Template}
+use Rattle.templates.specs.Machine.{Itb, nothing, fillItb, mach}
+use Rattle.templates.specs.Layout.{places, template, itb, blank, fillTemplate, itbs, lay, machOf, stateOf, Laid}
 use Rattle.templates.proofs.Seeking.{drop-map}
-use Rattle.templates.proofs.Places.{placed, held-length, templates-laid, templates-length, lay-front, blanks}
+use Rattle.templates.proofs.Places.{placed, held-length, templates-laid, lay-front, blanks}
 use Rattle.table.specs.Table.{among, mapFrom, removeAt, removed}
 use Rattle.table.proofs.Walks.{removed-at}
 
@@ -25,7 +25,7 @@ set-map f [] p x = refl
 set-map f (y ∷ xs) zero x = refl
 set-map f (y ∷ xs) (suc p) x = ap (λ ys. f y ∷ ys) (set-map f xs p x)
 
-pub take-map : {A B : Type 0} (f : A → B) (i : ℕ) (xs : List A) → take i (map f xs) ≡ map f (take i xs)
+take-map : {A B : Type 0} (f : A → B) (i : ℕ) (xs : List A) → take i (map f xs) ≡ map f (take i xs)
 take-map f zero xs = refl
 take-map f (suc i) [] = refl
 take-map f (suc i) (x ∷ xs) = ap (λ ys. f x ∷ ys) (take-map f i xs)
@@ -42,6 +42,16 @@ filled-from : (t : Tag) (v : Value) (i : ℕ) (xs : List Itb) → mapFrom (fillT
 filled-from t v i xs =
     ap₂ _++_ (take-map template i xs) (ap (map (fillTemplate t v)) (drop-map template i xs) ∙ filled t v (drop i xs))
     ∙ sym (map-append template (take i xs) (map (fillItb t v) (drop i xs)))
+
+-- ---- the templates of a table, as ITBs
+
+-- at a place
+pub itb-at : (n : ℕ) (ts : List Template) (p : ℕ) → p < n → getD (itbs (take n ts)) p nothing ≡ itb (getD ts p blank)
+itb-at n ts p h = List·getD-map itb (take n ts) p blank ∙ ap itb (getD-take n ts p blank h)
+
+-- before it
+pub itbs-before : (n : ℕ) (ts : List Template) (p : ℕ) → p < n → itbs (take p ts) ≡ take p (itbs (take n ts))
+itbs-before n ts p h = sym (take-map itb p (take n ts) ∙ ap itbs (take-take p n ts (omega arith)))
 
 -- ---- the layout of a list
 

@@ -3,7 +3,7 @@ use mathlib.Core.Path.{_≡_, refl, sym, ap, ap₂, _∙_}
 use Prim.Native.Nat.{ℕ, suc, _+_, _≤_, _<_, min}
 use native.Mathlib.Numerals.{add-one}
 use native.Mathlib.Omega.{arith}
-use mathlib.Core.List.{List, _∷_, _++_, append-nil}
+use mathlib.Core.List.{List, _++_, append-nil}
 use lib.ListN.{length, take, drop, getD, set, length-take, length-set, drop-of-length-le, take-append-drop}
 use lib.Seq.{take-all, drop-cons, append-snoc, set-split, drop-set-lt, take-set-lt, take-suc-set, getD-take}
 use borrow.Author.Tests.{lt-ltb, le-ltb}

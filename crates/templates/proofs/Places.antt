@@ -2,8 +2,8 @@
 use mathlib.Core.Path.{_≡_, refl, sym, ap, ap₂, _∙_}
 use Prim.Native.Nat.{ℕ, _-_, _≤_}
 use native.Mathlib.Omega.{arith}
-use mathlib.Core.List.{List, [], _∷_, _++_, map}
-use lib.ListN.{length, take, drop, replicate, length-append, length-take, length-map, length-replicate, take-append-drop}
+use mathlib.Core.List.{List, [], _∷_, map}
+use lib.ListN.{length, take, drop, replicate, length-append, length-map, length-replicate, take-append-drop}
 use lib.Seq.{length-take-le, take-append-seam, drop-append-seam}
 use Rattle.templates.specs.declared.Counter.{Counter}
 use Rattle.templates.specs.declared.Template.{Template}
@@ -68,9 +68,6 @@ module _ (s : State) (l : Laid s) where
   -- the table
   pub templates-laid : s .templates ≡ lay held
   templates-laid = ap (λ (t : State). t .templates) (l .whole)
-
-  pub templates-length : length (s .templates) ≡ places
-  templates-length = ap length templates-laid ∙ lay-length held (omega (arith, held-length, l .within))
 
   -- the places behind the templates
   pub blanks : drop (s .count) (s .templates) ≡ replicate (places - length held) blank

@@ -71,5 +71,9 @@ with σ c rf xs = mach c rf xs
 abbrev pub room : ℕ
 room = 64
 
+-- tags are 1 to this one
+abbrev pub lastTag : ℕ
+lastTag = 64
+
 abbrev pub start : Mach
 start = mach (At (record { 0 = 0 })) (replicate registers (register (Known undefined))) []

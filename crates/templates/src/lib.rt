@@ -14,9 +14,10 @@ pub const PLACES: usize = 64;
 // The most templates that a machine has room for.
 pub const ROOM: usize = 64;
 
-// Tags are 1 to this one; with 0, for none, there are so many numbers.
+// Tags are 1 to this one.
 pub const LAST_TAG: u8 = 64;
 
+// The numbers of tags, with 0 for none.
 pub const TAGS: usize = 65;
 
 // What a register or an operand holds: a value, or the tag that it waits for.

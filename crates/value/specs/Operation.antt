@@ -9,7 +9,7 @@ use mir.Val.{toZ, ofZ}
 use Rattle.value.specs.declared.Value.{Value}
 use Rattle.value.specs.declared.Value.the-variants.{Undefined, Word}
 
--- the value that doesn't exist: built here alone
+-- the undefined value: built here alone
 abbrev pub undefined : Value
 undefined = Undefined
 

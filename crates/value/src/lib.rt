@@ -7,7 +7,7 @@ pub enum Value {
     Word(u32),
 }
 
-// The value that doesn't exist: built here alone.
+// The undefined value: built here alone.
 pub const UNDEFINED: Value = Value::Undefined;
 
 // A word, read as two's complement.
