@@ -36,7 +36,7 @@ use Rattle.sound.proofs.Decides.{new-said}
 use Rattle.rules.specs.declared.Rule.{Rule}
 use Rattle.rules.specs.declared.Command.{Command}
 use Rattle.rules.specs.declared.Command.the-variants.{Malformed, Issue, Apply}
-use Rattle.rules.specs.Rules.{Step, holding, tried, apply, isFresh, tagOk, issued, issueAt, issueFrom, issue}
+use Rattle.rules.specs.Rules.{Step, holding, tried, apply, isFresh, tagOk, issued, issueAt, issueFrom, issue, tagAllowed}
 use Rattle.rules.specs.Schedule.{obey}
 use Rattle.rules.proofs.Cases.{OnStep, Cases, apply-cases}
 use Rattle.records.proofs.Leading.{found-inside}
@@ -227,7 +227,7 @@ module _ (prog : List Instr) (formed : AllFormed prog) (σ : Mach) (m : List Val
   issue-at t ia plain (some i) e =
       by-test (StaysSound (length prog)) (leb room (length (σ .held))) (λ _. tt)
       (λ space.
-      by-test (StaysSound (length prog)) (tagOk (σ .held) t i)
+      by-test (StaysSound (length prog)) (tagAllowed σ t i)
       (issued-sound (length prog) t σ m s plain ia (found-inside prog (ia .0) e) (leb-false room (length (σ .held)) space) i (found-formed prog (ia .0) formed e))
       (λ _. tt))
 

@@ -18,7 +18,7 @@ use Rattle.sound.proofs.Basics.{by-test}
 use Rattle.rules.specs.declared.Rule.{Rule}
 use Rattle.rules.specs.declared.Command.{Command}
 use Rattle.rules.specs.declared.Command.the-variants.{Malformed, Issue, Apply}
-use Rattle.rules.specs.Rules.{Step, accepted, refused, tried, apply, tagOk, issueAt, issueFrom, issue}
+use Rattle.rules.specs.Rules.{Step, accepted, refused, tried, apply, tagAllowed, issueAt, issueFrom, issue}
 use Rattle.rules.specs.Schedule.{obey}
 use Rattle.rules.proofs.Cases.{apply-cases}
 
@@ -46,7 +46,7 @@ module _ (prog : List Instr) (σ : Mach) (m : List Value) where
   issue-at t ia none = λ e. omega arith
   issue-at t ia (some i) =
       by-test Numbered (leb room (length (σ .held))) (λ _ e. omega arith)
-      (λ _. by-test Numbered (tagOk (σ .held) t i) (λ _. tt) (λ _ e. omega arith))
+      (λ _. by-test Numbered (tagAllowed σ t i) (λ _. tt) (λ _ e. omega arith))
 
   issue-from : (t : Tag) (c : Counter) → Numbered (issueFrom t σ m prog c)
   issue-from t (At ia) = issue-at t ia (getElem? prog (ia .0))

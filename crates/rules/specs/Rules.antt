@@ -192,6 +192,10 @@ tagSuits fresh t (Instr.Store r1 r2) = eqb (t .0) 0
 abbrev pub tagOk : List Itb → Tag → Instr → Bool
 tagOk ts t i = tagSuits (isFresh t ts) t i
 
+-- in this machine
+abbrev pub tagAllowed : Mach → Tag → Instr → Bool
+tagAllowed σ t i = tagOk (σ .held) t i
+
 -- the new template's work: the operands' present contents
 abbrev pub workOf : List Register → InstrAddr → Tag → Instr → Work
 workOf rf ia t (Instr.Loadc r k) = Done t (Word k)
@@ -229,7 +233,7 @@ module _ (t : Tag) (σ : Mach) (m : List Value) where
   issueAt ia i =
       cond (leb room (length (σ .held)))
       (refused full)
-      (cond (tagOk (σ .held) t i) (accepted (issued ia i) m) (refused badTag))
+      (cond (tagAllowed σ t i) (accepted (issued ia i) m) (refused badTag))
 
   abbrev pub issueFrom : List Instr → Counter → Step
   issueFrom prog Stall = refused stalled
