@@ -92,6 +92,17 @@ def blocked_cases():
                     ("loads ahead", blocked(32, [op(r, r, r, ADD) for r in range(31)])))
 
 
+def lengthened(name, program, memory, times):
+    """The case in a program and a memory that are so many times 64 long; what is added is never reached."""
+    schedule = schedule_of(program, memory)
+    return Case(name, program + loadc(0, 0) * (64 * times - len(program) // 8), memory + memory_of(None) * (64 * times - len(memory) // 8), schedule)
+
+
+def length_cases(times):
+    """Of the run, whose schedule is so many times as long too; and of the drain, whose rules the table limits."""
+    return {"run": lengthened("counting loop", *counting_loop(50 * times), times), "drain": lengthened("straight line", *straight_line(), times)}
+
+
 def expected(case):
     """What each part does once."""
     memory, state = bytearray(case.memory), ax.State()

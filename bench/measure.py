@@ -1,5 +1,6 @@
 """Measures the three programs on the library, on the Rust and on Maude, and prints the rates and their ratios."""
 
+import itertools
 import os
 import re
 import shutil
@@ -15,7 +16,7 @@ import cases
 import terms
 
 PARTS = {"run": "rules", "drain": "rules", "inorder": "instructions"}  # in the order of the arguments; what is counted
-LEAST_SECONDS, ROUNDS, TARGET = 0.3, 3, 10
+LEAST_SECONDS, ROUNDS, TARGET = 0.3, 3, 20
 Task = namedtuple("Task", "case folder part once")  # once: what the second model says one repetition does
 
 METHOD = """
@@ -136,14 +137,37 @@ def tasks(of, parts):
                 yield Task(case, folder, part, once[part])
 
 
+def natives(machines):
+    return {name: machine for name, machine in machines.items() if isinstance(machine, Native)}
+
+
+def native_row(start, took, scale):
+    """A line of what something takes, in units of which a second has so many."""
+    cells = ["%.3g" % (scale * took[name]) if name in took else "" for name in ("ours", "Rust")]
+    return "%-46s" % start + "".join("%12s" % cell for cell in cells)
+
+
 def blocked_rows(machines):
-    """A drain of each blocked table, by what is native: Maude's rules are applied in another order."""
-    native = {name: machine for name, machine in machines.items() if isinstance(machine, Native)}
+    """A drain of each blocked table, without Maude, whose rules are applied in another order."""
     for task in tasks(cases.blocked_cases(), ["drain"]):
-        took = measured(native, task)
-        cells = ["%.3g" % (1e6 * took[name]) if name in took else "" for name in ("ours", "Rust")]
-        start = "%-16s  drain of %2d rules  us" % (task.case.name, task.once.rules)
-        yield "%-46s" % start + "".join("%12s" % cell for cell in cells)
+        yield native_row("%-16s  drain of %2d rules  us" % (task.case.name, task.once.rules), measured(natives(machines), task), 1e6)
+
+
+def call_and_rule(machines, case, part):
+    """The seconds of a call that applies no rule, and of a rule of the case's call: what that takes beyond the first."""
+    (_, none), (rules, all_) = ((task.once.rules, measured(natives(machines), task))
+                                for task in tasks([case._replace(schedule=b""), case], [part]))
+    return none, {name: (all_[name] - none[name]) / rules for name in none}
+
+
+def length_rows(machines):
+    """A call's checks, and a rule, in a run and in a drain; then in 16 times the program, the memory and the schedule."""
+    for part in ("run", "drain"):
+        for times, lengths in ((1, ""), (16, ", 16 times")):
+            case = cases.length_cases(times)[part]
+            none, rule = call_and_rule(machines, case, part)
+            yield native_row("%-13s  %-7s  us, no rule%s" % (case.name, part, lengths), none, 1e6)
+            yield native_row("%-13s  %-7s  ns a rule%s" % (case.name, part, lengths), rule, 1e9)
 
 
 def main(rust):
@@ -156,7 +180,7 @@ def main(rust):
         print(row(task, rate), flush=True)
         if "Maude" in rate:
             met.append(ratio(rate, "ours", "Maude") >= TARGET)
-    for line in blocked_rows(machines):
+    for line in itertools.chain(blocked_rows(machines), length_rows(machines)):
         print(line, flush=True)
     print(METHOD)
     if met:
