@@ -3,7 +3,7 @@ use Prim.Native.Nat.{ℕ, _+_}
 use mathlib.Core.Path.{_≡_}
 use mathlib.Core.Bool.{Bool}
 use mathlib.Core.List.{List}
-use lib.ListN.{length, getElem?, take, drop}
+use lib.ListN.{length, getElem?}
 use Rattle.records.specs.declared.Found.{Found}
 use Rattle.records.specs.declared.Record.{Record}
 use Rattle.records.specs.declared.Verdict.{Verdict}
@@ -28,7 +28,7 @@ use Rattle.cells.specs.Cells.{Stores, cells, loadFrom}
 use Rattle.cells.specs.Cells as Cells
 use Rattle.kernel.specs.declared.Reached.{Reached}
 use Rattle.kernel.specs.Checks.{checked}
-use Rattle.kernel.specs.Kernel.{Writes, reached}
+use Rattle.kernel.specs.Kernel.{Writes, reached, number}
 use Rattle.kernel.specs.Kernel as Kernel
 use Rattle.listing.specs.Listing.{Lists}
 use Rattle.inorder.specs.declared.InOrder.{InOrder}
@@ -40,18 +40,21 @@ use Rattle.templates.specs.declared.Template.{Template}
 use Rattle.templates.specs.declared.Register.{Register}
 use Rattle.templates.specs.declared.Counter.{Counter}
 use Rattle.templates.specs.declared.State.{State}
-use Rattle.templates.specs.Templates.{waits, makes, fill, anyReg, fillRegs, contents, put}
-use Rattle.templates.specs.Templates as Templates
-use Rattle.templates.specs.Machine.{anyHolds, anyMakes, anyMemory}
+use Rattle.templates.specs.Templates.{waits}
 use Rattle.templates.specs.Machine as Mach
-use Rattle.templates.specs.Layout.{itbs, machOf, stateOf}
+use Rattle.templates.specs.Layout.{machOf, stateOf}
 use Rattle.templates.specs.Layout as Layout
-use Rattle.table.specs.Table.{among, mapFrom, removed}
+use Rattle.rows.specs.Rows.{Row, kindAt, operationAt, tagAt, addressAt, valueAt, firstAt, secondAt, producedIn, inRegister, filledBehind, without}
+use Rattle.rows.specs.Rows as Rows
+use Rattle.rows.specs.Shown.{laidTemplates, laidRegisters}
+use Rattle.rows.specs.Answers.{Finishes, Fills, Holds, Adds, Turns, TurnsRegisters}
 use Rattle.sound.specs.Sound as Sound
 use Rattle.rules.specs.declared.Rule.{Rule}
 use Rattle.rules.specs.declared.Command.{Command}
 use Rattle.rules.specs.Drain as Drain
 use Rattle.rules.specs.Schedule.{commandOf}
+use Rattle.judge.specs.Reading.{forwarding, committing, retiring, operating, loading, jumping, falling}
+use Rattle.judge.specs.Reading as Reading
 use Rattle.entry.specs.Entry.{Enters}
 use Rattle.renaming.specs.Entries.{Steps, Runs, Drains}
 use Rattle.lines.specs.Lines.{inputText, ranText, drainedText, blockedText, counterText, valueText, registerText, Puts}
@@ -110,21 +113,36 @@ pub record OneAnswers : Type 0 where
   pub inOrderEnter : (p b : List ℕ) (s : InOrder) → OneAnswer (λ (r′ : Verdict). r′ ≡ InOrder.entered p b s)
   pub start : OneAnswer (λ (r′ : State). r′ ≡ stateOf Mach.start)
   pub waitsFor : (o : Operand) (t : Tag) → OneAnswer (λ (r′ : Bool). r′ ≡ waits t o)
-  pub operandAt : (w : Work) (j : ℕ) → OneAnswer (λ (r′ : Operand). r′ ≡ Templates.operandAt w j)
-  pub madeBy : (w : Work) → OneAnswer (λ (r′ : Tag). r′ ≡ makes w)
-  pub isMemory : (w : Work) → OneAnswer (λ (r′ : Bool). r′ ≡ Templates.isMemory w)
-  pub fillOperand : (o : Operand) (t : Tag) (v : Value) → OneAnswer (λ (r′ : Operand). r′ ≡ fill t v o)
-  pub fillTemplate : (x : Template) (t : Tag) (v : Value) → OneAnswer (λ (r′ : Template). r′ ≡ Layout.fillTemplate t v x)
   pub blank : OneAnswer (λ (r′ : Template). r′ ≡ Layout.blank)
-  pub heldFrom : (ts : List Template) (n from : ℕ) (t : Tag) → OneAnswer (λ (r′ : Bool). r′ ≡ anyHolds t (drop from (itbs (take n ts))))
-  pub produced : (ts : List Template) (n : ℕ) (t : Tag) → OneAnswer (λ (r′ : Bool). r′ ≡ anyMakes t (itbs (take n ts)))
-  pub memoryBefore : (ts : List Template) (n : ℕ) → OneAnswer (λ (r′ : Bool). r′ ≡ anyMemory (itbs (take n ts)))
-  pub fillFrom : (ts : List Template) (n from : ℕ) (t : Tag) (v : Value) → OneAnswer (λ (r′ : List Template). r′ ≡ among n (mapFrom (Layout.fillTemplate t v) from) ts)
-  pub without : (ts : List Template) (n p : ℕ) → OneAnswer (λ (r′ : List Template). r′ ≡ among n (removed p) ts)
-  pub heldByRegister : (rf : List Register) (t : Tag) → OneAnswer (λ (r′ : Bool). r′ ≡ anyReg t rf)
-  pub fillRegisters : (rf : List Register) (t : Tag) (v : Value) → OneAnswer (λ (r′ : List Register). r′ ≡ fillRegs t v rf)
-  pub readRegister : (rf : List Register) (r : Reg) → OneAnswer (λ (r′ : Operand). r′ ≡ contents rf r)
-  pub writeRegister : (rf : List Register) (r : Reg) (o : Operand) → OneAnswer (λ (r′ : List Register). r′ ≡ put rf r o)
+  pub kind : (ts : List Row) (p : ℕ) → OneAnswer (λ (r′ : ℕ). r′ ≡ kindAt ts p)
+  pub operation : (ts : List Row) (p : ℕ) → OneAnswer (λ (r′ : ℕ). r′ ≡ operationAt ts p)
+  pub tag : (ts : List Row) (p : ℕ) → OneAnswer (λ (r′ : Tag). r′ ≡ tagAt ts p)
+  pub address : (ts : List Row) (p : ℕ) → OneAnswer (λ (r′ : InstrAddr). r′ ≡ addressAt ts p)
+  pub value : (ts : List Row) (p : ℕ) → OneAnswer (λ (r′ : Value). r′ ≡ valueAt ts p)
+  pub first : (ts : List Row) (p : ℕ) → OneAnswer (λ (r′ : Operand). r′ ≡ firstAt ts p)
+  pub second : (ts : List Row) (p : ℕ) → OneAnswer (λ (r′ : Operand). r′ ≡ secondAt ts p)
+  pub heldBehind : (ts : List Row) (n p : ℕ) → OneAnswer (λ (r′ : Bool). r′ ≡ Rows.heldBehind n p ts)
+  pub memoryBefore : (ts : List Row) (n : ℕ) → OneAnswer (λ (r′ : Bool). r′ ≡ Rows.memoryBefore n ts)
+  pub produced : (ts : List Row) (n : ℕ) (t : Tag) → OneAnswer (λ (r′ : Bool). r′ ≡ producedIn n t ts)
+  pub heldByRegister : (rf : List ℕ) (t : Tag) → OneAnswer (λ (r′ : Bool). r′ ≡ inRegister t rf)
+  pub fillBehind : (ts : List Row) (n p : ℕ) → OneAnswer (λ (r′ : List Row). r′ ≡ filledBehind n p ts)
+  pub remove : (ts : List Row) (n p : ℕ) → OneAnswer (λ (r′ : List Row). r′ ≡ without n p ts)
+  pub finish : (ts : List Row) (p : ℕ) (v : Value) → OneAnswer (Finishes p v ts)
+  pub fillRegisters : (rf : List ℕ) (t : Tag) (v : Value) → OneAnswer (Fills t v rf)
+  pub hold : (rf : List ℕ) (r : Reg) (t : Tag) → OneAnswer (Holds r t rf)
+  pub add : (ts : List Row) (n : ℕ) (rf : List ℕ) (ia : InstrAddr) (t : Tag) (i : Instr) → OneAnswer (Adds n rf ia t i ts)
+  pub table : (ts : List Template) (n : ℕ) → OneAnswer (Turns n ts)
+  pub numbers : (rf : List Register) → OneAnswer (TurnsRegisters rf)
+  pub templates : (ts : List Row) (n : ℕ) → OneAnswer (λ (r′ : List Template). r′ ≡ laidTemplates n ts)
+  pub registers : (rf : List ℕ) → OneAnswer (λ (r′ : List Register). r′ ≡ laidRegisters rf)
+  pub forward : (ts : List Row) (n p : ℕ) → OneAnswer (λ (r′ : ℕ). r′ ≡ number (forwarding n p ts))
+  pub commit : (ts : List Row) (rf : List ℕ) (p : ℕ) → OneAnswer (λ (r′ : ℕ). r′ ≡ number (committing p ts rf))
+  pub retire : (ts : List Row) (rf : List ℕ) (n p : ℕ) → OneAnswer (λ (r′ : ℕ). r′ ≡ number (retiring n p ts rf))
+  pub operateAt : (ts : List Row) (p : ℕ) → OneAnswer (λ (r′ : Loaded). r′ ≡ Cells.answer (operating p ts))
+  pub loadAt : (ts : List Row) (p : ℕ) (b : List ℕ) → OneAnswer (λ (r′ : Loaded). r′ ≡ Cells.answer (loading (cells b) p ts))
+  pub jump : (ts : List Row) (p : ℕ) → OneAnswer (λ (r′ : Reached). r′ ≡ reached (jumping p ts))
+  pub noJump : (ts : List Row) (p : ℕ) → OneAnswer (λ (r′ : ℕ). r′ ≡ number (falling p ts))
+  pub refusalOn : (ts : List Row) (rf : List ℕ) (n : ℕ) (r : Rule) (p : ℕ) (b : List ℕ) → OneAnswer (λ (r′ : ℕ). r′ ≡ Reading.refusalOn n p ts rf (cells b) r)
   pub enter : (p b : List ℕ) (s : State) → OneAnswer (Enters p b s)
   pub readCommand : (rule place tag last : ℕ) → OneAnswer (λ (r′ : Command). r′ ≡ commandOf rule place tag last)
   pub asks : (w : Work) → OneAnswer (λ (r′ : Rule). r′ ≡ Drain.asks w)

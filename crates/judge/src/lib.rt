@@ -1,11 +1,11 @@
-// The refusal of a rule other than issue, at any place of any state, and the rule that a template asks for; nothing is done.
+// What a rule other than issue answers at a place of the working table, and its refusal at a place of a state; nothing is done.
 ghost use mathlib.Core.Path.{_≡_};
-ghost use Prim.Native.Nat.{suc, _<_};
-ghost use lib.ListN.{take, drop};
-ghost use Rattle.cells.specs.Cells.{cells};
-ghost use Rattle.templates.specs.Layout.{places, itbs, machOf};
+ghost use Prim.Native.Nat.{min};
+ghost use Rattle.cells.specs.Cells.{cells, answer};
+ghost use Rattle.kernel.specs.Kernel.{reached, number};
+ghost use Rattle.templates.specs.Layout.{places, machOf};
 ghost use Rattle.rules.specs.Drain.{asks, refusalAt};
-ghost use Rattle.rules.specs.Judge.{kind, wants, needed, unlessHeld, ifHeld, ifEarlier, addressed, decided, targeted, conditions};
+ghost use Rattle.judge.specs.Reading.{operating, loading, storing, jumping, falling, forwarding, committing, retiring, targeted, loadRefusal, jumpRefusal, refusalOn};
 use cells::Loaded;
 use kernel::Reached;
 use records::refusal;
@@ -14,46 +14,202 @@ use templates::Operand;
 use templates::PLACES;
 use templates::State;
 use templates::Work;
-use templates::leaf;
 use value::Value;
 
-// ---- the kinds of work
+// ---- a value template
 
-const VALUE: u8 = 0;
-
-const OP: u8 = 1;
-
-const JZ: u8 = 2;
-
-const LOAD: u8 = 3;
-
-const STORE: u8 = 4;
-
-fn kind(w: Work) -> u8
-    ensures { λ r. ⌜ r ≡ kind w ⌝ }
+pub fn forward(ts: &[[u64; 3]], n: usize, p: usize) -> u8
+    ensures { λ r. ⌜ r ≡ number (forwarding n p (now (ts .entry))) ⌝ }
 {
-    match w {
-        Work::Done(_, _) => VALUE,
-        Work::Op(_, _, _, _) => OP,
-        Work::Jz(_, _) => JZ,
-        Work::Load(_, _) => LOAD,
-        Work::Store(_, _) => STORE,
+    if rows::kind(ts, p) != rows::VALUE {
+        return refusal::OTHER_KIND;
+    }
+    if rows::held_behind(ts, n, p) {
+        return 0;
+    }
+    refusal::NOT_HELD
+}
+
+pub fn commit(ts: &[[u64; 3]], rf: &[u64], p: usize) -> u8
+    ensures { λ r. ⌜ r ≡ number (committing p (now (ts .entry)) (now (rf .entry))) ⌝ }
+{
+    if rows::kind(ts, p) != rows::VALUE {
+        return refusal::OTHER_KIND;
+    }
+    if rows::held_by_register(rf, rows::tag(ts, p)) {
+        return 0;
+    }
+    refusal::NOT_HELD
+}
+
+pub fn retire(ts: &[[u64; 3]], rf: &[u64], n: usize, p: usize) -> u8
+    ensures { λ r. ⌜ r ≡ number (retiring n p (now (ts .entry)) (now (rf .entry))) ⌝ }
+{
+    if rows::kind(ts, p) != rows::VALUE {
+        return refusal::OTHER_KIND;
+    }
+    if rows::held_by_register(rf, rows::tag(ts, p)) {
+        return refusal::STILL_HELD;
+    }
+    if rows::held_behind(ts, n, p) {
+        return refusal::STILL_HELD;
+    }
+    0
+}
+
+// ---- one that becomes a value template: the value
+
+pub fn operate(ts: &[[u64; 3]], p: usize) -> Loaded
+    ensures { λ r. ⌜ r ≡ answer (operating p (now (ts .entry))) ⌝ }
+{
+    if rows::kind(ts, p) != rows::OP {
+        return Loaded::Refused(refusal::OTHER_KIND);
+    }
+    match rows::first(ts, p) {
+        Operand::Known(u) => match rows::second(ts, p) {
+            Operand::Known(v) => Loaded::Is(value::operate(rows::operation(ts, p), u, v)),
+            Operand::Waits(_) => Loaded::Refused(refusal::NEEDS_TAG),
+        },
+        Operand::Waits(_) => Loaded::Refused(refusal::NEEDS_TAG),
     }
 }
 
-fn wants(rule: Rule) -> u8
-    ensures { λ r. ⌜ r ≡ wants rule ⌝ }
+pub fn load(ts: &[[u64; 3]], p: usize, memory: &[u8]) -> Loaded
+    ensures { λ r. ⌜ r ≡ answer (loading (cells (now (memory .entry))) p (now (ts .entry))) ⌝ }
 {
-    match rule {
-        Rule::Operate => OP,
-        Rule::Forward => VALUE,
-        Rule::Commit => VALUE,
-        Rule::Retire => VALUE,
-        Rule::Load => LOAD,
-        Rule::Store => STORE,
-        Rule::Jump => JZ,
-        Rule::NoJump => JZ,
+    if rows::kind(ts, p) != rows::LOAD {
+        return Loaded::Refused(refusal::OTHER_KIND);
     }
+    if rows::memory_before(ts, p) {
+        return Loaded::Refused(refusal::EARLIER_MEMORY);
+    }
+    match rows::first(ts, p) {
+        Operand::Known(u) => kernel::read_at(memory, u),
+        Operand::Waits(_) => Loaded::Refused(refusal::NEEDS_TAG),
+    }
+}
+
+// ---- one that is removed: where the counter goes
+
+fn target(o: Operand) -> Reached
+    ensures { λ r. ⌜ r ≡ reached (targeted o) ⌝ }
+{
+    match o {
+        Operand::Known(v) => kernel::target(v),
+        Operand::Waits(_) => Reached::Refused(refusal::NEEDS_TAG),
+    }
+}
+
+pub fn jump(ts: &[[u64; 3]], p: usize) -> Reached
+    ensures { λ r. ⌜ r ≡ reached (jumping p (now (ts .entry))) ⌝ }
+{
+    if rows::kind(ts, p) != rows::JZ {
+        return Reached::Refused(refusal::OTHER_KIND);
+    }
+    match rows::first(ts, p) {
+        Operand::Known(u) => match u {
+            Value::Undefined => Reached::Refused(refusal::IS_UNDEFINED),
+            Value::Word(w) => {
+                if w != 0 {
+                    return Reached::Refused(refusal::OTHER_WAY);
+                }
+                target(rows::second(ts, p))
+            }
+        },
+        Operand::Waits(_) => Reached::Refused(refusal::NEEDS_TAG),
+    }
+}
+
+// 0 where it falls through.
+pub fn no_jump(ts: &[[u64; 3]], p: usize) -> u8
+    ensures { λ r. ⌜ r ≡ number (falling p (now (ts .entry))) ⌝ }
+{
+    if rows::kind(ts, p) != rows::JZ {
+        return refusal::OTHER_KIND;
+    }
+    match rows::first(ts, p) {
+        Operand::Known(u) => match u {
+            Value::Undefined => refusal::IS_UNDEFINED,
+            Value::Word(w) => { if w == 0 { refusal::OTHER_WAY } else { 0 } }
+        },
+        Operand::Waits(_) => refusal::NEEDS_TAG,
+    }
+}
+
+// ---- the refusals
+
+fn load_refusal(r: Loaded) -> u8
+    ensures { λ n. ⌜ n ≡ loadRefusal r ⌝ }
+{
+    match r {
+        Loaded::Is(_) => 0,
+        Loaded::Refused(n) => n,
+    }
+}
+
+fn jump_refusal(r: Reached) -> u8
+    ensures { λ n. ⌜ n ≡ jumpRefusal r ⌝ }
+{
+    match r {
+        Reached::At(_) => 0,
+        Reached::Refused(n) => n,
+    }
+}
+
+// A store's address is refused as a load's is.
+fn store_refusal(ts: &[[u64; 3]], p: usize, memory: &[u8]) -> u8
+    ensures { λ r. ⌜ r ≡ number (storing (cells (now (memory .entry))) p (now (ts .entry))) ⌝ }
+{
+    if rows::kind(ts, p) != rows::STORE {
+        return refusal::OTHER_KIND;
+    }
+    if rows::memory_before(ts, p) {
+        return refusal::EARLIER_MEMORY;
+    }
+    match rows::first(ts, p) {
+        Operand::Known(u) => match rows::second(ts, p) {
+            Operand::Known(_) => load_refusal(kernel::read_at(memory, u)),
+            Operand::Waits(_) => refusal::NEEDS_TAG,
+        },
+        Operand::Waits(_) => refusal::NEEDS_TAG,
+    }
+}
+
+// Of a rule at place p of n templates: 0 if it is accepted there.
+pub fn refusal_on(ts: &[[u64; 3]], rf: &[u64], n: usize, rule: Rule, p: usize, memory: &[u8]) -> u8
+    ensures { λ r. ⌜ r ≡ refusalOn n p (now (ts .entry)) (now (rf .entry)) (cells (now (memory .entry))) rule ⌝ }
+{
+    if p >= n {
+        return refusal::NO_TEMPLATE;
+    }
+    match rule {
+        Rule::Operate => load_refusal(operate(ts, p)),
+        Rule::Forward => forward(ts, n, p),
+        Rule::Commit => commit(ts, rf, p),
+        Rule::Retire => retire(ts, rf, n, p),
+        Rule::Load => load_refusal(load(ts, p, memory)),
+        Rule::Store => store_refusal(ts, p, memory),
+        Rule::Jump => jump_refusal(jump(ts, p)),
+        Rule::NoJump => no_jump(ts, p),
+    }
+}
+
+fn held(count: usize) -> usize
+    ensures { λ r. ⌜ r ≡ min count places ⌝ }
+{
+    if count < PLACES { count } else { PLACES }
+}
+
+// The same at any place of any state.
+pub fn refusal_at(state: State, rule: Rule, place: usize, memory: &[u8]) -> u8
+    ensures { λ r. ⌜ r ≡ refusalAt rule place (machOf state) (cells (now (memory .entry))) ⌝ }
+{
+    let templates = state.templates;
+    let registers = state.registers;
+    let n = held(state.count);
+    let ts = rows::table(templates, n);
+    let rf = rows::numbers(registers);
+    refusal_on(&ts, &rf, n, rule, place, memory)
 }
 
 // The rule that a template waits to do; of a Jz that of jump.
@@ -67,131 +223,4 @@ pub fn asks(w: Work) -> Rule
         Work::Load(_, _) => Rule::Load,
         Work::Store(_, _) => Rule::Store,
     }
-}
-
-// ---- conditions
-
-// What is left to say, once the operand is a value.
-fn needed(o: Operand, n: u8) -> u8
-    ensures { λ r. ⌜ r ≡ needed o n ⌝ }
-{
-    match o {
-        Operand::Known(_) => n,
-        Operand::Waits(_) => refusal::NEEDS_TAG,
-    }
-}
-
-fn unless_held(held: bool) -> u8
-    ensures { λ r. ⌜ r ≡ unlessHeld held ⌝ }
-{
-    if held { 0 } else { refusal::NOT_HELD }
-}
-
-fn if_held(held: bool) -> u8
-    ensures { λ r. ⌜ r ≡ ifHeld held ⌝ }
-{
-    if held { refusal::STILL_HELD } else { 0 }
-}
-
-// What is left to say, once no Load or Store is earlier.
-fn if_earlier(earlier: bool, n: u8) -> u8
-    ensures { λ r. ⌜ r ≡ ifEarlier earlier n ⌝ }
-{
-    if earlier { refusal::EARLIER_MEMORY } else { n }
-}
-
-fn addressed(o: Operand, memory: &[u8]) -> u8
-    ensures { λ r. ⌜ r ≡ addressed (cells (now (memory .entry))) o ⌝ }
-{
-    match o {
-        Operand::Known(u) => match kernel::read_at(memory, u) {
-            Loaded::Is(_) => 0,
-            Loaded::Refused(n) => n,
-        },
-        Operand::Waits(_) => refusal::NEEDS_TAG,
-    }
-}
-
-// n if the condition is zero, k if it isn't.
-fn decided(o: Operand, n: u8, k: u8) -> u8
-    ensures { λ r. ⌜ r ≡ decided o n k ⌝ }
-{
-    match o {
-        Operand::Known(u) => match u {
-            Value::Undefined => refusal::IS_UNDEFINED,
-            Value::Word(w) => { if w == 0 { n } else { k } }
-        },
-        Operand::Waits(_) => refusal::NEEDS_TAG,
-    }
-}
-
-fn targeted(o: Operand) -> u8
-    ensures { λ r. ⌜ r ≡ targeted o ⌝ }
-{
-    match o {
-        Operand::Known(u) => match kernel::target(u) {
-            Reached::At(_) => 0,
-            Reached::Refused(n) => n,
-        },
-        Operand::Waits(_) => refusal::NEEDS_TAG,
-    }
-}
-
-// ---- the rules
-
-// At work of the rule's kind.
-fn conditions(s: State, rule: Rule, place: usize, w: Work, memory: &[u8]) -> u8
-    requires { ⌜ place < places ⌝ }
-    ensures { λ r. ⌜ r ≡ conditions rule (machOf s) (cells (now (memory .entry))) (itbs (take place (s .templates))) (drop (suc place) (machOf s .held)) w ⌝ }
-{
-    let a = leaf::operand_at(w, 0);
-    let b = leaf::operand_at(w, 1);
-    let t = leaf::made_by(w);
-    match rule {
-        Rule::Operate => needed(a, needed(b, 0)),
-        Rule::Forward => {
-            let ts = s.templates;
-            unless_held(table::held_from(ts, s.count, place + 1, t))
-        }
-        Rule::Commit => {
-            let rf = s.registers;
-            unless_held(table::held_by_register(rf, t))
-        }
-        Rule::Retire => {
-            let rf = s.registers;
-            let ts = s.templates;
-            if_held(table::held_by_register(rf, t) | table::held_from(ts, s.count, place + 1, t))
-        }
-        Rule::Load => {
-            let ts = s.templates;
-            if_earlier(table::memory_before(ts, place), addressed(a, memory))
-        }
-        Rule::Store => {
-            let ts = s.templates;
-            if_earlier(
-                table::memory_before(ts, place),
-                needed(b, addressed(a, memory)),
-            )
-        }
-        Rule::Jump => decided(a, targeted(b), refusal::OTHER_WAY),
-        Rule::NoJump => decided(a, refusal::OTHER_WAY, 0),
-    }
-}
-
-// 0 if the rule is accepted there.
-pub fn refusal_at(state: State, rule: Rule, place: usize, memory: &[u8]) -> u8
-    ensures { λ r. ⌜ r ≡ refusalAt rule place (machOf state) (cells (now (memory .entry))) ⌝ }
-{
-    if place >= state.count {
-        return refusal::NO_TEMPLATE;
-    }
-    if place >= PLACES {
-        return refusal::NO_TEMPLATE;
-    }
-    let x = state.templates[place];
-    let w = x.work;
-    if kind(w) != wants(rule) {
-        return refusal::OTHER_KIND;
-    }
-    conditions(state, rule, place, w, memory)
 }

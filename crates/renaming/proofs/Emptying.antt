@@ -1,177 +1,214 @@
 -- The loop of a drain is the drain, and what blocks it is the oldest template's refusal.
-use mathlib.Core.Path.{_≡_, refl, sym, ap, _∙_}
+use mathlib.Core.Path.{_≡_, refl, sym, ap, ap₂, subst, _∙_}
 use mathlib.Core.Logic.{_≢_}
-use Prim.Native.Nat.{ℕ, zero, suc, _+_, _-_, _/_, _<_, _≤_}
+use Prim.Native.Nat.{ℕ, zero, suc, _+_, _-_, _<_, _≤_}
 use native.Mathlib.Numerals.{add-one}
 use native.Mathlib.Omega.{arith}
+use mathlib.Core.Bool.{cond}
 use mathlib.Core.List.{List, [], _∷_}
+use lib.Dec.{eqb}
 use lib.ListN.{length, take, drop, getD}
-use lib.Seq.{drop-cons}
+use borrow.Author.Tests.{ne-eqb}
 use Rattle.records.specs.declared.Verdict.{Verdict}
 use Rattle.records.specs.Refusal.{noTemplate}
 use Rattle.value.specs.declared.Value.{Value}
+use Rattle.isa.specs.declared.InstrAddr.{InstrAddr}
 use Rattle.cells.specs.Cells.{cells, image, Formed}
 use Rattle.kernel.proofs.Checking.{refuses, works}
-use Rattle.templates.specs.declared.Work.{Work}
+use Rattle.templates.specs.declared.Counter.{Counter}
+use Rattle.templates.specs.declared.Register.{Register}
 use Rattle.templates.specs.declared.Template.{Template}
 use Rattle.templates.specs.declared.State.{State}
-use Rattle.templates.specs.Machine.{Itb, ITB, nothing, Mach}
-use Rattle.templates.specs.Layout.{blank, itbs, machOf, Laid}
-use Rattle.templates.proofs.Places.{held-length}
+use Rattle.templates.specs.declared.Work.{Work}
+use Rattle.templates.specs.Machine.{Itb, Mach}
+use Rattle.templates.specs.Layout.{blank, lay, machOf}
+use Rattle.sound.specs.Sound.{soundMach}
+use Rattle.sound.proofs.Soundness.{Sound}
 use Rattle.sound.proofs.Decides.{sound-said}
+use Rattle.rows.specs.Rows.{Row, rowAt, itbOf, kindAt, tagAt, addressAt}
+use Rattle.rows.specs.Rows as Rows
+use Rattle.rows.specs.Shown.{heldOf, regsOf, Table, File}
+use Rattle.rows.proofs.Showing.{held-long}
 use Rattle.rules.specs.declared.Rule.{Rule}
-use Rattle.renaming.specs.declared.Answer.{Answer}
-use Rattle.renaming.specs.declared.Settled.{Settled}
+use Rattle.rules.specs.declared.Rule.the-variants as Rule
 use Rattle.rules.specs.Rules as Rules
 use Rattle.rules.specs.Rules.{Step, refused, apply}
-use Rattle.renaming.specs.Answers.{behind, Stands, Fit, Acts}
-use Rattle.rules.specs.Drain.{first, rules, firstOf, seek, oldest, Drained, further, drainFrom, drain, due, asks, blocking, blockedAt, refusalAt}
-use Rattle.entry.specs.Entry.{entered}
-use Rattle.renaming.specs.Entries.{settled, drained, drainedMemory, Drains, Empties}
-use Rattle.renaming.proofs.Changes.{standing}
-use Rattle.rules.proofs.Keeping.{apply-keeps-sound}
+use Rattle.rules.specs.Drain.{first, rules, firstOf, seek, oldest, Drained, further, drainFrom, drain, due, dueValue, dueJump, asks, blocking, blockedAt, refusalAt}
+use Rattle.rules.proofs.Due.{firstAt, same}
+use Rattle.rules.proofs.Keeping.{StaysSound, apply-keeps-sound}
 use Rattle.rules.proofs.Numbered.{Numbered, apply-numbered}
-use Rattle.renaming.proofs.Due.{due-first}
-use Rattle.renaming.proofs.Fitting.{acts-accepted, acts-refused, acts-laid}
+use Rattle.judge.proofs.Answering.{at}
+use Rattle.entry.specs.Entry.{entered}
+use Rattle.renaming.specs.declared.Now.{Now}
+use Rattle.renaming.specs.declared.Emptied.{Emptied}
+use Rattle.renaming.specs.declared.Settled.{Settled}
+use Rattle.renaming.specs.Entries.{settled, drained, drainedMemory, Drains, Empties}
+use Rattle.renaming.specs.Working.{shows, Inside, Stands, Acts, DrainsTo}
+use Rattle.renaming.proofs.Steps.{came-accepted, came-refused}
 
--- ---- what blocks
+-- ---- the rule that is due is the first of all that is accepted
 
-nobody : (s : State) → s .count ≡ 0 → machOf s .held ≡ []
-nobody s e = ap (λ (n : ℕ). itbs (take n (s .templates))) e
+module _ {n p : ℕ} {ts : List Row} (s : Stands n p ts) (c : Counter) (rs : List Register) (m : List Value) where
+  abbrev σ : Mach
+  σ = shows c n ts rs
 
-pub blocking-none : (s : State) (m : List Value) → s .count ≡ 0 → 0 ≡ blocking (machOf s) m (machOf s .held)
-blocking-none s m e = sym (ap (blocking (machOf s) m) (nobody s e))
+  abbrev pre : List Itb
+  pre = take p (heldOf n ts)
 
-pub blocked-nowhere : (s : State) → s .count ≡ 0 → record { 0 = 0 } ≡ blockedAt (machOf s .held)
-blocked-nowhere s e = sym (ap blockedAt (nobody s e))
+  abbrev post : List Itb
+  post = drop (suc p) (heldOf n ts)
 
-module _ (s : State) (x : Template) (w : Work) (h : Stands s 0 x w) where
-  -- the oldest stands in front
-  front : machOf s .held ≡ ITB (x .address) w ∷ drop 1 (machOf s .held)
-  front =
-      drop-cons (machOf s .held) 0 nothing (omega (arith, held-length s (h .laid), h .place))
-      ∙ ap (λ (y : Itb). y ∷ drop 1 (machOf s .held)) (standing s 0 x w h)
+  abbrev here : Work
+  here = itbOf (rowAt ts p) .work
 
-  pub blocking-is : (m : List Value) → refusalAt (asks w) 0 (machOf s) m ≡ blocking (machOf s) m (machOf s .held)
-  blocking-is m = sym (ap (blocking (machOf s) m) front)
+  first-at : (qs : List Rule) → firstOf qs p σ m ≡ firstAt σ m pre (addressAt ts p) post here qs
+  first-at [] = refl
+  first-at (r ∷ qs) = ap₂ first (at (s .table) (s .place) c rs m r) (first-at qs)
 
-  pub blocked-is : x .address ≡ blockedAt (machOf s .held)
-  blocked-is = sym (ap blockedAt front)
+  due-first : (other : Step) → first (firstOf rules p σ m) other ≡ first (apply (due rs post here) p σ m) other
+  due-first other = rw (first-at rules, at (s .table) (s .place) c rs m (due rs post here)) (same σ m pre (addressAt ts p) post other here)
 
 -- ---- the loop of a drain
 
--- the drain after n rules, with so many more at most, once its search has come to t
+-- the drain after k rules, with so many more at most, once its search has come to t
 abbrev turn : ℕ → ℕ → Mach → List Value → Step → Drained
-turn zero n σ m t = record { rules = n; machine = σ; memory = m }
-turn (suc fuel) n σ m t = further (λ σ′ m′. drainFrom fuel (n + 1) σ′ m′) (record { rules = n; machine = σ; memory = m }) t
+turn zero k σ m t = record { rules = k; machine = σ; memory = m }
+turn (suc fuel) k σ m t = further (λ σ′ m′. drainFrom fuel (k + 1) σ′ m′) (record { rules = k; machine = σ; memory = m }) t
 
-turn-first : (fuel n : ℕ) (σ : Mach) (m : List Value) → drainFrom fuel n σ m ≡ turn fuel n σ m (oldest σ m)
+turn-first : (fuel k : ℕ) (σ : Mach) (m : List Value) → drainFrom fuel k σ m ≡ turn fuel k σ m (oldest σ m)
 unfolding drainFrom
-turn-first zero n σ m = refl
-turn-first (suc fuel) n σ m = refl
+turn-first zero k σ m = refl
+turn-first (suc fuel) k σ m = refl
 
--- the search from place p on
-abbrev from : State → ℕ → List Value → Step
-from s p m = seek (s .count - p) p (machOf s) m
+-- of n templates, the search from place p on
+abbrev from : ℕ → ℕ → Mach → List Value → Step
+from n p σ m = seek (n - p) p σ m
 
-from-first : (s : State) → Laid s → (m : List Value) → oldest (machOf s) m ≡ from s 0 m
+from-first : (n : ℕ) (σ : Mach) → length (σ .held) ≡ n → (m : List Value) → oldest σ m ≡ from n 0 σ m
 unfolding oldest
-from-first s l m = let all : length (machOf s .held) ≡ s .count - 0 = omega (arith, held-length s l) in ap (λ (k : ℕ). seek k 0 (machOf s) m) all
+from-first n σ l m = let all : length (σ .held) ≡ n - 0 = omega (arith, l) in ap (λ (k : ℕ). seek k 0 σ m) all
 
--- the drain from here on is the whole drain
-pub record Left (p : List ℕ) (s₀ : State) (b₀ : List ℕ) (s : State) (b : List ℕ) (n place : ℕ) : Type 0 where
-  pub rest : turn (256 - n) n (machOf s) (cells b) (from s place (cells b)) ≡ drain (machOf s₀) (cells b₀)
-  pub fit : Fit p s
-  pub below : n ≤ 256
-  pub within : place ≤ s .count
+-- the drain from here on is the whole drain d
+pub record Left (d : Drained) (b₀ : List ℕ) (c : Counter) (n : ℕ) (ts : List Row) (rf b : List ℕ) (k place : ℕ) : Type 0 where
+  pub rest : turn (256 - k) k (shows c n ts (regsOf rf)) (cells b) (from n place (shows c n ts (regsOf rf)) (cells b)) ≡ d
+  pub table : Table n ts
+  pub file : File rf
+  pub inside : Inside (shows c n ts (regsOf rf))
+  pub below : k ≤ 256
+  pub within : place ≤ n
   pub long : length b ≡ length b₀
   pub formed : Formed b₀ → Formed b
 
-pub drain-begins : (p : List ℕ) (s : State) (b : List ℕ) → Fit p s → Left p s b s b 0 0
-drain-begins p s b f =
+pub drain-begins : (c : Counter) (n : ℕ) (ts : List Row) (rf b : List ℕ) → Table n ts → File rf → Inside (shows c n ts (regsOf rf))
+    → Left (drain (shows c n ts (regsOf rf)) (cells b)) b c n ts rf b 0 0
+drain-begins c n ts rf b t f i =
+    let σ = shows c n ts (regsOf rf) in
     record {
-      rest = ap (turn 256 0 (machOf s) (cells b)) (sym (from-first s (f .laid) (cells b))) ∙ sym (turn-first 256 0 (machOf s) (cells b));
-      fit = f;
+      rest = ap (turn 256 0 σ (cells b)) (sym (from-first n σ (held-long t) (cells b))) ∙ sym (turn-first 256 0 σ (cells b));
+      table = t;
+      file = f;
+      inside = i;
       below = omega arith;
       within = omega arith;
       long = refl;
       formed = λ h. h;
     }
 
-module _ {p : List ℕ} {s₀ : State} {b₀ : List ℕ} {s : State} {b : List ℕ} {n place : ℕ} (l : Left p s₀ b₀ s b n place) where
+module _ {d : Drained} {b₀ : List ℕ} {c : Counter} {n : ℕ} {ts : List Row} {rf b : List ℕ} {k place : ℕ} (l : Left d b₀ c n ts rf b k place) where
+  abbrev τ : Mach
+  τ = shows c n ts (regsOf rf)
+
   -- where the loop is left, the machine is as it is
-  ends : record { rules = n; machine = machOf s; memory = cells b } ≡ drain (machOf s₀) (cells b₀)
-      → {r : Settled} → r ≡ settled (record { rules = n; machine = machOf s; memory = cells b }) → Empties s₀ b₀ r b
-  ends e a = record { answer = a ∙ ap settled e; holds = ap (λ (d : Drained). d .memory) e; formed = l .formed }
+  ends : record { rules = k; machine = τ; memory = cells b } ≡ d → DrainsTo d b₀ (record { counter = c; count = n; rules = k }) ts rf b
+  ends e = record { end = e; table = l .table; file = l .file; formed = l .formed }
 
-  pub drain-spent : 256 ≤ n → {r : Settled} → r ≡ settled (record { rules = n; machine = machOf s; memory = cells b }) → Empties s₀ b₀ r b
+  pub drain-spent : 256 ≤ k → DrainsTo d b₀ (record { counter = c; count = n; rules = k }) ts rf b
   drain-spent h =
-      let none : 0 ≡ 256 - n = omega arith in
-      ends (ap (λ (k : ℕ). turn k n (machOf s) (cells b) (from s place (cells b))) none ∙ l .rest)
+      let none : 0 ≡ 256 - k = omega arith in
+      ends (ap (λ (j : ℕ). turn j k τ (cells b) (from n place τ (cells b))) none ∙ l .rest)
 
-  module _ (h : n < 256) where
-    another : (t : Step) → turn (256 - n) n (machOf s) (cells b) t
-        ≡ further (λ σ m. drainFrom (256 - (n + 1)) (n + 1) σ m) (record { rules = n; machine = machOf s; memory = cells b }) t
-    another t = let more : 256 - n ≡ suc (256 - (n + 1)) = omega arith in ap (λ (k : ℕ). turn k n (machOf s) (cells b) t) more
+  module _ (h : k < 256) where
+    another : (t : Step) → turn (256 - k) k τ (cells b) t
+        ≡ further (λ σ m. drainFrom (256 - (k + 1)) (k + 1) σ m) (record { rules = k; machine = τ; memory = cells b }) t
+    another t = let more : 256 - k ≡ suc (256 - (k + 1)) = omega arith in ap (λ (j : ℕ). turn j k τ (cells b) t) more
 
-    pub drain-stops : s .count ≤ place → {r : Settled} → r ≡ settled (record { rules = n; machine = machOf s; memory = cells b }) → Empties s₀ b₀ r b
-    drain-stops k =
-        let none : 0 ≡ s .count - place = omega arith in
-        ends (sym (another (refused noTemplate)) ∙ ap (λ (i : ℕ). turn (256 - n) n (machOf s) (cells b) (seek i place (machOf s) (cells b))) none ∙ l .rest)
+    pub drain-stops : n ≤ place → DrainsTo d b₀ (record { counter = c; count = n; rules = k }) ts rf b
+    drain-stops q =
+        let none : 0 ≡ n - place = omega arith in
+        ends (sym (another (refused noTemplate)) ∙ ap (λ (i : ℕ). turn (256 - k) k τ (cells b) (seek i place τ (cells b))) none ∙ l .rest)
 
-    module _ (k : place < s .count) {x : Template} (e : x ≡ getD (s .templates) place blank) {rule : Rule} (d : rule ≡ due (s .registers) (behind s place) (x .work))
-        {r : Answer} {b′ : List ℕ} (a : Acts s (apply rule place (machOf s) (cells b)) b r b′) where
+    module _ (q : place < n) {rule : Rule} (e : rule ≡ due (regsOf rf) (drop (suc place) (heldOf n ts)) (itbOf (rowAt ts place) .work))
+        {r : Now} {ts′ : List Row} {rf′ b′ : List ℕ} (a : Acts (apply rule place) c n ts rf b r ts′ rf′ b′) where
       abbrev tried : Step
-      tried = apply rule place (machOf s) (cells b)
+      tried = apply rule place τ (cells b)
 
       numbered : Numbered tried
-      numbered = apply-numbered rule place (machOf s) (cells b)
+      numbered = apply-numbered rule place τ (cells b)
 
-      here : from s place (cells b) ≡ first tried (from s (place + 1) (cells b))
-      here =
-          let more : s .count - place ≡ suc (s .count - (place + 1)) = omega arith in
-          let later = from s (place + 1) (cells b) in
-          ap (λ (i : ℕ). seek i place (machOf s) (cells b)) more
-          ∙ ap (λ (i : ℕ). first (firstOf rules place (machOf s) (cells b)) (seek (s .count - (place + 1)) i (machOf s) (cells b))) (sym (add-one place))
-          ∙ due-first s place (cells b) x later (x .work) (record { laid = l .fit .laid; place = k; here = e; does = refl })
-          ∙ ap (λ (q : Rule). first (apply q place (machOf s) (cells b)) later) (sym d)
+      here-first : from n place τ (cells b) ≡ first tried (from n (place + 1) τ (cells b))
+      here-first =
+          let more : n - place ≡ suc (n - (place + 1)) = omega arith in
+          let later = from n (place + 1) τ (cells b) in
+          ap (λ (i : ℕ). seek i place τ (cells b)) more
+          ∙ ap (λ (i : ℕ). first (firstOf rules place τ (cells b)) (seek (n - (place + 1)) i τ (cells b))) (sym (add-one place))
+          ∙ due-first (record { table = l .table; place = q }) c (regsOf rf) (cells b) later
+          ∙ ap (λ (x : Rule). first (apply x place τ (cells b)) later) (sym e)
 
-      pub drain-again : r .refusal ≡ 0 → length b′ ≡ length b → Left p s₀ b₀ (r .state) b′ (n + 1) 0
+      pub drain-again : r .refusal ≡ 0 → length b′ ≡ length b → Left d b₀ (r .counter) (r .count) ts′ rf′ b′ (k + 1) 0
       drain-again z long =
-          let i = length p / 8 in
-          let sound = sound-said i (machOf s) .holds (l .fit .sound) in
-          let laid = acts-laid tried i numbered (apply-keeps-sound i rule place (machOf s) (cells b) sound) a z in
-          let next : Step = Rules.accepted (machOf (r .state)) (cells b′) in
-          let found : from s place (cells b) ≡ next = here ∙ ap (λ (t : Step). first t (from s (place + 1) (cells b))) (acts-accepted tried numbered a z) in
+          let i = l .inside in
+          let next = shows (r .counter) (r .count) ts′ (regsOf rf′) in
+          let went : tried ≡ Rules.accepted next (cells b′) = came-accepted tried numbered (a .does) z in
+          let kept = subst (StaysSound (i .0)) went (apply-keeps-sound (i .0) rule place τ (cells b) (sound-said (i .0) τ .holds (i .2))) in
+          let found : from n place τ (cells b) ≡ Rules.accepted next (cells b′) = here-first ∙ ap (λ (t : Step). first t (from n (place + 1) τ (cells b))) went in
           record {
             rest =
-                ap (turn (256 - (n + 1)) (n + 1) (machOf (r .state)) (cells b′)) (sym (from-first (r .state) (laid .0) (cells b′)))
-                ∙ sym (turn-first (256 - (n + 1)) (n + 1) (machOf (r .state)) (cells b′))
-                ∙ sym (another next)
-                ∙ ap (turn (256 - n) n (machOf s) (cells b)) (sym found)
+                ap (turn (256 - (k + 1)) (k + 1) next (cells b′)) (sym (from-first (r .count) next (held-long (a .does .table)) (cells b′)))
+                ∙ sym (turn-first (256 - (k + 1)) (k + 1) next (cells b′))
+                ∙ sym (another (Rules.accepted next (cells b′)))
+                ∙ ap (turn (256 - k) k τ (cells b)) (sym found)
                 ∙ l .rest;
-            fit = record { laid = laid .0; sound = sound-said i (machOf (r .state)) .says (laid .1) };
+            table = a .does .table;
+            file = a .file;
+            inside = (i .0, i .1, sound-said (i .0) next .says kept);
             below = omega arith;
             within = omega arith;
             long = long ∙ l .long;
             formed = λ f. a .formed (l .formed f);
           }
 
-      pub drain-on : r .refusal ≢ 0 → length b′ ≡ length b → Left p s₀ b₀ s b′ n (place + 1)
+      -- a refused rule leaves what is shown; the numbers themselves may not be looked at
+      pub drain-on : r .refusal ≢ 0 → length b′ ≡ length b → Left d b₀ (r .counter) (r .count) ts′ rf′ b′ k (place + 1)
       drain-on z long =
-          let no = acts-refused tried a z in
-          let left : from s place (cells b) ≡ from s (place + 1) (cells b) = here ∙ ap (λ (t : Step). first t (from s (place + 1) (cells b))) (no .0) in
+          let no = came-refused tried (a .does) z in
+          let next = shows (r .counter) (r .count) ts′ (regsOf rf′) in
+          let count : r .count ≡ n = sym (held-long (a .does .table)) ∙ ap (λ (x : Mach). length (x .held)) (no .1) ∙ held-long (l .table) in
+          let left : from n place τ (cells b) ≡ from n (place + 1) τ (cells b) = here-first ∙ ap (λ (t : Step). first t (from n (place + 1) τ (cells b))) (no .0) in
           record {
             rest =
-                ap (λ (m : List Value). turn (256 - n) n (machOf s) m (from s (place + 1) m)) (no .1)
-                ∙ ap (turn (256 - n) n (machOf s) (cells b)) (sym left)
+                ap (λ (j : ℕ). turn (256 - k) k next (cells b′) (from j (place + 1) next (cells b′))) count
+                ∙ ap₂ (λ (x : Mach) (m : List Value). turn (256 - k) k x m (from n (place + 1) x m)) (no .1) (no .2)
+                ∙ ap (turn (256 - k) k τ (cells b)) (sym left)
                 ∙ l .rest;
-            fit = l .fit;
+            table = a .does .table;
+            file = a .file;
+            inside = subst Inside (sym (no .1)) (l .inside);
             below = l .below;
-            within = omega arith;
+            within = omega (arith, count, q);
             long = long ∙ l .long;
             formed = λ f. a .formed (l .formed f);
           }
+
+-- ---- what blocks: the oldest of the templates xs, in a state that is their layout
+
+pub blocking-is : (σ : Mach) (m : List Value) (xs : List Itb) (n : ℕ) → length xs ≡ n → {w : Work} → w ≡ getD (lay xs) 0 blank .work
+    → cond (eqb n 0) 0 (refusalAt (asks w) 0 σ m) ≡ blocking σ m xs
+blocking-is σ m [] n l e = rw (← l) refl
+blocking-is σ m (x ∷ xs) n l e = rw (ne-eqb n 0 (λ q. omega (arith, l, q))) (ap (λ (w : Work). refusalAt (asks w) 0 σ m) e)
+
+pub blocked-is : (xs : List Itb) {a : InstrAddr} → a ≡ getD (lay xs) 0 blank .address → a ≡ blockedAt xs
+blocked-is [] e = e
+blocked-is (x ∷ xs) e = e
 
 -- ---- the entry
 
@@ -194,3 +231,24 @@ module _ (p : List ℕ) (s : State) (b : List ℕ) {v : Verdict} (c : v ≡ ente
         answer = e .answer ∙ sym (works (entered p b s) c h _ _);
         bytes = sym (e .formed f) ∙ ap image (e .holds) ∙ sym (works (entered p b s) c h _ b);
       }
+
+-- ---- the rule that is due, by the kind
+
+module _ (rs : List Register) (post : List Itb) (ts : List Row) (p : ℕ) where
+  abbrev dueAt : Rule
+  dueAt = due rs post (itbOf (rowAt ts p) .work)
+
+  pub due-value : kindAt ts p ≡ 0 → dueAt ≡ dueValue rs post (tagAt ts p)
+  due-value e = rw e refl
+
+  pub due-op : kindAt ts p ≡ 1 → dueAt ≡ Rule.Operate
+  due-op e = rw e refl
+
+  pub due-jz : kindAt ts p ≡ 2 → dueAt ≡ dueJump (Rows.firstAt ts p)
+  due-jz e = rw e refl
+
+  pub due-load : kindAt ts p ≡ 3 → dueAt ≡ Rule.Load
+  due-load e = rw e refl
+
+  pub due-store : kindAt ts p ≢ 0 → kindAt ts p ≢ 1 → kindAt ts p ≢ 2 → kindAt ts p ≢ 3 → dueAt ≡ Rule.Store
+  due-store a b d e = rw (ne-eqb (kindAt ts p) 0 a, ne-eqb (kindAt ts p) 1 b, ne-eqb (kindAt ts p) 2 d, ne-eqb (kindAt ts p) 3 e) refl

@@ -15,7 +15,6 @@ use Rattle.templates.specs.declared.State.{State}
 use Rattle.templates.specs.Layout.{machOf, stateOf}
 use Rattle.entry.specs.Entry.{entered}
 use Rattle.rules.specs.declared.Command.{Command}
-use Rattle.renaming.specs.declared.Answer.{Answer}
 use Rattle.renaming.specs.declared.Stepped.{Stepped}
 use Rattle.renaming.specs.declared.Ran.{Ran}
 use Rattle.renaming.specs.declared.Settled.{Settled}
@@ -23,7 +22,7 @@ use Rattle.rules.specs.Rules.{Step}
 use Rattle.rules.specs.Schedule.{commandOf, obey}
 use Rattle.rules.specs.Run.{End, commands, run}
 use Rattle.rules.specs.Drain.{Drained, drain, blocking, blockedAt}
-use Rattle.renaming.specs.Answers.{answerOf, memoryOf}
+use Rattle.renaming.specs.Answers.{Answer, answerOf, memoryOf}
 
 -- ---- step
 

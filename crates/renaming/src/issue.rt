@@ -1,66 +1,21 @@
 // Issue: the instruction at the counter becomes the last template.
 ghost use mathlib.Core.Path.{_≡_};
 ghost use Prim.Native.Nat.{_<_};
-ghost use lib.ListN.{take};
 ghost use Rattle.records.specs.Scan.{accepted};
 ghost use Rattle.isa.specs.Program.{scanOf};
-ghost use Rattle.templates.specs.Layout.{itbs, machOf, Laid};
-ghost use Rattle.rules.specs.Rules.{isFresh, tagSuits, workOf, renamed, counterAfter, issueAt};
-ghost use Rattle.renaming.specs.Answers.{Gives, Issues};
-use crate::Answer;
-use crate::change;
+ghost use Rattle.isa.specs.Program.{program as instructions};
+ghost use Rattle.rows.specs.Shown.{heldOf, Table, File};
+ghost use Rattle.rules.specs.Rules.{isFresh, tagSuits, counterAfter, issueAt, issue};
+ghost use Rattle.renaming.specs.Working.{Renames, DoesBoth};
+use crate::Now;
 use isa::Instr;
 use isa::InstrAddr;
-use isa::REGISTERS;
 use isa::Reading;
 use isa::Tag;
 use records::refusal;
 use templates::Counter;
 use templates::LAST_TAG;
-use templates::Operand;
-use templates::PLACES;
 use templates::ROOM;
-use templates::Register;
-use templates::State;
-use templates::Template;
-use templates::Work;
-use value::Value;
-
-// The new template's work: the operands' present contents.
-fn work_of(rf: [Register; REGISTERS], ia: InstrAddr, t: Tag, i: Instr) -> Work
-    ensures { λ w. ⌜ w ≡ workOf rf ia t i ⌝ }
-{
-    match i {
-        Instr::Loadc(_, k) => Work::Done(t, Value::Word(k)),
-        Instr::Loadpc(_) => Work::Done(t, Value::Word(ia.0)),
-        Instr::Op(_, n, r1, r2) => Work::Op(
-            t,
-            n,
-            table::read_register(rf, r1),
-            table::read_register(rf, r2),
-        ),
-        Instr::Jz(r1, r2) => Work::Jz(table::read_register(rf, r1), table::read_register(rf, r2)),
-        Instr::Load(_, r1) => Work::Load(t, table::read_register(rf, r1)),
-        Instr::Store(r1, r2) => Work::Store(
-            table::read_register(rf, r1),
-            table::read_register(rf, r2),
-        ),
-    }
-}
-
-// The registers with the tag in the destination.
-fn rename(rf: [Register; REGISTERS], t: Tag, i: Instr) -> [Register; REGISTERS]
-    ensures { λ a. ⌜ a ≡ renamed rf t i ⌝ }
-{
-    match i {
-        Instr::Loadc(r, _) => table::write_register(rf, r, Operand::Waits(t)),
-        Instr::Loadpc(r) => table::write_register(rf, r, Operand::Waits(t)),
-        Instr::Op(r, _, _, _) => table::write_register(rf, r, Operand::Waits(t)),
-        Instr::Jz(_, _) => rf,
-        Instr::Load(r, _) => table::write_register(rf, r, Operand::Waits(t)),
-        Instr::Store(_, _) => rf,
-    }
-}
 
 fn counter_after(ia: InstrAddr, i: Instr) -> Counter
     requires { ⌜ ia .0 < 1024 ⌝ }
@@ -78,10 +33,11 @@ fn counter_after(ia: InstrAddr, i: Instr) -> Counter
 }
 
 // A tag is unused when no template produces it; that no register holds it says nothing.
-fn is_fresh(ts: [Template; PLACES], n: usize, t: Tag) -> bool
-    ensures { λ r. ⌜ r ≡ isFresh t (itbs (take n ts)) ⌝ }
+fn is_fresh(ts: &[[u64; 3]], n: usize, t: Tag) -> bool
+    requires { ⌜ Table n (now ts) ⌝ }
+    ensures { λ r. ⌜ r ≡ isFresh t (heldOf n (now (ts .entry))) ⌝ }
 {
-    let unused = !table::produced(ts, n, t);
+    let unused = !rows::produced(ts, n, t);
     (0 < t.0) & ((t.0 <= LAST_TAG) & unused)
 }
 
@@ -98,47 +54,83 @@ fn tag_suits(fresh: bool, t: Tag, i: Instr) -> bool
     }
 }
 
-// Operands are copied before the destination is renamed.
-fn issue_at(s: State, t: Tag, ia: InstrAddr, i: Instr) -> Answer
-    requires { ⌜ Laid s × (ia .0 < 1024) ⌝ }
-    ensures { λ r. ⌜ Gives s (λ m. issueAt t (machOf s) m ia i) r ⌝ }
+// The destination holds the tag.
+fn rename(rf: &mut [u64], t: Tag, i: Instr)
+    requires { ⌜ File (now rf) ⌝ }
+    ensures { λ _. ⌜ Renames t i (now (rf .entry)) (now (rf .exit)) ⌝ }
 {
-    let n = s.count;
-    if n >= ROOM {
-        return change::refused(s, refusal::FULL);
+    match i {
+        Instr::Loadc(r, _) => rows::hold(rf, r, t),
+        Instr::Loadpc(r) => rows::hold(rf, r, t),
+        Instr::Op(r, _, _, _) => rows::hold(rf, r, t),
+        Instr::Jz(_, _) => {}
+        Instr::Load(r, _) => rows::hold(rf, r, t),
+        Instr::Store(_, _) => {}
     }
-    let mut ts = s.templates;
-    let fresh = is_fresh(ts, n, t);
-    if !tag_suits(fresh, t, i) {
-        return change::refused(s, refusal::BAD_TAG);
-    }
-    let rf = s.registers;
-    let w = work_of(rf, ia, t, i);
-    ts[n] = Template {
-        address: ia,
-        work: w,
-    };
-    let c = counter_after(ia, i);
-    let renamed = rename(rf, t, i);
-    let next = State {
-        counter: c,
-        registers: renamed,
-        templates: ts,
-        count: n + 1,
-    };
-    change::accepted(next)
 }
 
-pub(crate) fn issue(s: State, program: &[u8], t: Tag) -> Answer
-    requires { ⌜ Laid s × (scanOf (now program) ≡ accepted) ⌝ }
-    ensures { λ r. ⌜ Issues (now (program .entry)) t s r ⌝ }
+// Operands are copied before the destination is renamed.
+fn issue_at(
+    ts: &mut [[u64; 3]],
+    rf: &mut [u64],
+    c: Counter,
+    n: usize,
+    t: Tag,
+    ia: InstrAddr,
+    i: Instr,
+) -> Now
+    requires { ⌜ Table n (now ts) × File (now rf) × (ia .0 < 1024) ⌝ }
+    ensures { λ r. ⌜ DoesBoth (λ σ m. issueAt t σ m ia i) c n (now (ts .entry)) (now (rf .entry)) r (now (ts .exit)) (now (rf .exit)) ⌝ }
 {
-    let c = s.counter;
+    if n >= ROOM {
+        return Now {
+            counter: c,
+            count: n,
+            refusal: refusal::FULL,
+        };
+    }
+    let fresh = is_fresh(&ts[..], n, t);
+    if !tag_suits(fresh, t, i) {
+        return Now {
+            counter: c,
+            count: n,
+            refusal: refusal::BAD_TAG,
+        };
+    }
+    rows::add(ts, n, &rf[..], ia, t, i);
+    rename(rf, t, i);
+    let next = counter_after(ia, i);
+    Now {
+        counter: next,
+        count: n + 1,
+        refusal: 0,
+    }
+}
+
+pub(crate) fn issue(
+    ts: &mut [[u64; 3]],
+    rf: &mut [u64],
+    c: Counter,
+    n: usize,
+    program: &[u8],
+    t: Tag,
+) -> Now
+    requires { ⌜ Table n (now ts) × File (now rf) × (scanOf (now program) ≡ accepted) ⌝ }
+    ensures { λ r. ⌜ DoesBoth (issue (instructions (now (program .entry))) t) c n (now (ts .entry)) (now (rf .entry)) r (now (ts .exit)) (now (rf .exit)) ⌝ }
+{
     match c {
-        Counter::At(ia) => match isa::fetch(program, ia) {
-            Reading::Is(i) => issue_at(s, t, ia, i),
-            Reading::Refused(n) => change::refused(s, n),
+        Counter::At(ia) => match isa::decode(program, ia) {
+            Reading::Is(i) => issue_at(ts, rf, c, n, t, ia, i),
+            Reading::Refused(why) => Now {
+                counter: c,
+                count: n,
+                refusal: why,
+            },
         },
-        Counter::Stall => change::refused(s, refusal::STALLED),
+        Counter::Stall => Now {
+            counter: c,
+            count: n,
+            refusal: refusal::STALLED,
+        },
     }
 }

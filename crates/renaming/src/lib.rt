@@ -1,26 +1,38 @@
 // The renaming machine: its nine rules, step, run and drain.
 mod apply;
-mod change;
-mod done;
 mod draining;
+mod entries;
 mod issue;
-mod memory;
-mod obeying;
 mod running;
-mod stepping;
-mod waiting;
 
-pub use crate::draining::drain;
-pub use crate::running::run;
-pub use crate::stepping::step;
+pub use crate::entries::drain;
+pub use crate::entries::run;
+pub use crate::entries::step;
 
-// The state after a rule, and the refusal, 0 if there is none.
-pub struct Answer {
-    pub state: templates::State,
+// Where the machine stands after a rule, and the rule's refusal, 0 if there is none.
+pub(crate) struct Now {
+    pub counter: templates::Counter,
+    pub count: usize,
     pub refusal: u8,
 }
 
-// The same after a step, with the record number of refusals 2 and 3.
+// Where a run over the working table ended.
+pub(crate) struct Went {
+    pub counter: templates::Counter,
+    pub count: usize,
+    pub accepted: usize,
+    pub issued: usize,
+    pub refusal: u8,
+}
+
+// Where a drain over the working table ended.
+pub(crate) struct Emptied {
+    pub counter: templates::Counter,
+    pub count: usize,
+    pub rules: usize,
+}
+
+// The state after a step, the refusal, 0 if there is none, and the record number of refusals 2 and 3.
 pub struct Stepped {
     pub state: templates::State,
     pub refusal: u8,

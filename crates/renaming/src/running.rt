@@ -1,16 +1,21 @@
-// A run: the records of a schedule, until the first that is refused.
+// The run over the working table: the records of a schedule, until the first that is refused.
 ghost use mathlib.Core.Path.{_≡_};
 ghost use Prim.Native.Nat.{_<_};
 ghost use Rattle.records.specs.Scan.{accepted};
 ghost use Rattle.isa.specs.Program.{scanOf};
-ghost use Rattle.rules.specs.Run.{counted};
-ghost use Rattle.renaming.specs.Answers.{Fit};
-ghost use Rattle.renaming.specs.Entries.{Goes, Runs};
-use crate::Ran;
-use crate::obeying;
+ghost use Rattle.isa.specs.Program.{program as instructions};
+ghost use Rattle.cells.specs.Cells.{cells};
+ghost use Rattle.rows.specs.Shown.{heldOf, regsOf, Table, File};
+ghost use Rattle.rules.specs.Schedule.{obey};
+ghost use Rattle.rules.specs.Run.{commands, counted, run};
+ghost use Rattle.renaming.specs.Working.{shows, Within, Ready, Acts, RunsTo};
+use crate::Now;
+use crate::Went;
+use crate::apply;
+use crate::issue;
 use records::refusal;
 use rules::Command;
-use templates::State;
+use templates::Counter;
 
 fn count(c: Command, issued: usize) -> usize
     requires { ⌜ issued < 9223372036854775808 ⌝ }
@@ -23,68 +28,70 @@ fn count(c: Command, issued: usize) -> usize
     }
 }
 
-// The run of a state that was checked.
-fn go(s: State, program: &[u8], memory: &mut [u8], records: &[u8]) -> Ran
-    requires { ⌜ Fit (now program) s × (scanOf (now program) ≡ accepted) ⌝ }
-    ensures { λ r. ⌜ Goes (now (program .entry)) s (now (memory .entry)) (now (records .entry)) r (now (memory .exit)) ⌝ }
+fn obey(
+    ts: &mut [[u64; 3]],
+    rf: &mut [u64],
+    c: Counter,
+    n: usize,
+    program: &[u8],
+    memory: &mut [u8],
+    command: Command,
+) -> Now
+    requires { ⌜ Table n (now ts) × File (now rf) × Within (heldOf n (now ts)) × (scanOf (now program) ≡ accepted) ⌝ }
+    ensures { λ r. ⌜ Acts (obey (instructions (now (program .entry))) command) c n (now (ts .entry)) (now (rf .entry)) (now (memory .entry)) r (now (ts .exit)) (now (rf .exit)) (now (memory .exit)) ⌝ }
 {
-    let n = records.len() / 4;
-    let mut state = s;
-    let mut i: usize = 0;
-    let mut issued: usize = 0;
-    while i < n {
-        let at = 4 * i;
-        let c = schedule::read(
-            records[at],
-            records[at + 1],
-            records[at + 2],
-            records[at + 3],
-        );
-        let answer = obeying::obey(state, program, memory, c);
-        let no = answer.refusal;
-        state = answer.state;
-        if no != 0 {
-            return Ran {
-                state: state,
-                accepted: i,
-                issued: issued,
-                refusal: no,
-                number: 0,
-            };
-        }
-        issued = count(c, issued);
-        i += 1;
-    }
-    Ran {
-        state: state,
-        accepted: i,
-        issued: issued,
-        refusal: 0,
-        number: 0,
+    match command {
+        Command::Malformed => Now {
+            counter: c,
+            count: n,
+            refusal: refusal::BAD_SCHEDULE,
+        },
+        Command::Issue(t) => issue::issue(ts, rf, c, n, program, t),
+        Command::Apply(rule, p) => apply::apply(ts, rf, c, n, rule, p, memory),
     }
 }
 
-pub fn run(state: State, program: &[u8], memory: &mut [u8], records: &[u8]) -> Ran
-    ensures { λ r. ⌜ Runs (now (program .entry)) state (now (memory .entry)) (now (records .entry)) r (now (memory .exit)) ⌝ }
+pub(crate) fn go(
+    ts: &mut [[u64; 3]],
+    rf: &mut [u64],
+    c: Counter,
+    k: usize,
+    program: &[u8],
+    memory: &mut [u8],
+    records: &[u8],
+) -> Went
+    requires { ⌜ Ready (now program) c k (now ts) (now rf) ⌝ }
+    ensures { λ r. ⌜ RunsTo (run (instructions (now (program .entry))) (commands (now (records .entry))) (shows c k (now (ts .entry)) (regsOf (now (rf .entry)))) (cells (now (memory .entry)))) (now (memory .entry)) r (now (ts .exit)) (now (rf .exit)) (now (memory .exit)) ⌝ }
 {
-    if records.len() % 4 != 0 {
-        return Ran {
-            state: state,
-            accepted: 0,
-            issued: 0,
-            refusal: refusal::BAD_LENGTH,
-            number: 0,
-        };
+    let n = records.len() / 4;
+    let mut at = c;
+    let mut held = k;
+    let mut i: usize = 0;
+    let mut issued: usize = 0;
+    while i < n {
+        let j = 4 * i;
+        let command = schedule::read(records[j], records[j + 1], records[j + 2], records[j + 3]);
+        let next = obey(ts, rf, at, held, program, memory, command);
+        let why = next.refusal;
+        at = next.counter;
+        held = next.count;
+        if why != 0 {
+            return Went {
+                counter: at,
+                count: held,
+                accepted: i,
+                issued: issued,
+                refusal: why,
+            };
+        }
+        issued = count(command, issued);
+        i += 1;
     }
-    let verdict = entry::enter(state, program, &memory[..]);
-    if verdict.refusal != 0 {
-        return Ran {
-            state: state,
-            accepted: 0,
-            issued: 0,
-            refusal: verdict.refusal,
-            number: verdict.number,
-        };
+    Went {
+        counter: at,
+        count: held,
+        accepted: i,
+        issued: issued,
+        refusal: 0,
     }
-    go(state, program, memory, records)
 }

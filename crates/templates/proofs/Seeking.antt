@@ -1,16 +1,13 @@
--- A search in an array, a turn at a time, and in the templates of a table as in their ITBs.
-use mathlib.Core.Path.{_≡_, refl, sym, ap, _∙_}
-use Prim.Native.Nat.{ℕ, zero, suc, _+_, _≤_, _<_, min}
+-- A search in an array, a turn at a time.
+use mathlib.Core.Path.{_≡_, ap, _∙_}
+use Prim.Native.Nat.{ℕ, suc, _+_, _≤_, _<_, min}
 use native.Mathlib.Numerals.{add-one}
 use native.Mathlib.Omega.{arith}
-use mathlib.Core.Bool.{Bool, true, false, _||_}
-use mathlib.Core.List.{List, [], _∷_, map}
+use mathlib.Core.Bool.{Bool, true, false}
+use mathlib.Core.List.{List, _∷_}
 use lib.ListN.{length, take, drop, getD, length-take, drop-of-length-le}
 use lib.Seq.{drop-cons, getD-take}
-use Rattle.templates.specs.declared.Work.{Work}
-use Rattle.templates.specs.declared.Template.{Template}
 use Rattle.templates.specs.Templates.{any}
-use Rattle.templates.specs.Layout.{itbs}
 
 -- ---- a search among the first n of the k elements: from place i on it is to answer r
 pub record Seeking {A : Type 0} (f : A → Bool) (k n : ℕ) (l : List A) (i : ℕ) (r : Bool) : Type 0 where
@@ -33,18 +30,3 @@ module _ {A : Type 0} {f : A → Bool} {k n : ℕ} {l : List A} {i : ℕ} {r : B
   seek-end h =
       let past : length (take n l) ≤ i = omega (arith, length-take n l, s .long) in
       rw drop-of-length-le at (s .left)
-
--- ---- the templates of a table
-
-pub drop-map : {A B : Type 0} (f : A → B) (i : ℕ) (xs : List A) → drop i (map f xs) ≡ map f (drop i xs)
-drop-map f zero xs = refl
-drop-map f (suc i) [] = refl
-drop-map f (suc i) (x ∷ xs) = drop-map f i xs
-
-any-work : (f : Work → Bool) (ts : List Template) → any (λ x. f (x .work)) ts ≡ any (λ x. f (x .work)) (itbs ts)
-any-work f [] = refl
-any-work f (x ∷ ts) = ap (λ b. f (x .work) || b) (any-work f ts)
-
--- from a place on, one that has the work
-pub any-itb : (f : Work → Bool) (i : ℕ) (ts : List Template) → any (λ x. f (x .work)) (drop i ts) ≡ any (λ x. f (x .work)) (drop i (itbs ts))
-any-itb f i ts = any-work f (drop i ts) ∙ ap (any (λ x. f (x .work))) (sym (drop-map _ i ts))

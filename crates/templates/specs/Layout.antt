@@ -3,11 +3,9 @@ use mathlib.Core.Path.{_≡_}
 use Prim.Native.Nat.{ℕ, _-_, _≤_}
 use mathlib.Core.List.{List, _++_, map}
 use lib.ListN.{length, take, replicate}
-use Rattle.value.specs.declared.Value.{Value}
-use Rattle.isa.specs.declared.Tag.{Tag}
 use Rattle.templates.specs.declared.Template.{Template}
 use Rattle.templates.specs.declared.State.{State}
-use Rattle.templates.specs.Machine.{Itb, ITB, nothing, fillItb, Mach, mach}
+use Rattle.templates.specs.Machine.{Itb, ITB, nothing, Mach, mach}
 
 -- the places of the table
 abbrev pub places : ℕ
@@ -24,9 +22,6 @@ itb x = ITB (x .address) (x .work)
 -- address 0, tag 0, undefined value: it isn't a template
 abbrev pub blank : Template
 blank = template nothing
-
-abbrev pub fillTemplate : Tag → Value → Template → Template
-fillTemplate t v x = template (fillItb t v (itb x))
 
 -- ---- all places
 

@@ -1,10 +1,10 @@
 -- `renaming::issue::issue` meets its contract.
-use mathlib.Core.Path.{sym, ap, _∙_}
-use Rattle.isa.specs.Program.{program as instructionsOf, fetched}
+use Rattle.rules.specs.Rules.{issue}
+use mathlib.Core.Path.{sym, _∙_, refl}
+use Rattle.isa.specs.Program.{program as instructionsOf, decoded}
 use Rattle.isa.proofs.Answers.{reading-is, reading-no}
-use Rattle.isa.proofs.Programs.{fetched-program, fetched-inside}
-use Rattle.renaming.specs.Answers.{answerOf}
-use Rattle.renaming.proofs.Issuing.{issue-stalled, issue-there}
+use Rattle.isa.proofs.Programs.{fetched-program, fetched-inside, decoded-fetched}
+use Rattle.renaming.proofs.Issuing.{issue-stalled, issue-none, issue-there, at-counter}
 use borrow.Author.Needs.{needs}
 use Rattle.renaming.proofs.issue.issue.Statement.{statement}
 use Rattle.renaming.proofs.issue.issue.Tie as tie
@@ -12,60 +12,57 @@ use Rattle.renaming.proofs.issue.issue.Tie as tie
 enum-known-c : tie.Need-enum-known-c
 enum-known-c c = search needs
 
-fetch-requires : tie.Need-fetch-requires
-fetch-requires c κs = search needs
+decode-requires : tie.Need-decode-requires
+decode-requires c κs = search needs
 
 enum-known-i : tie.Need-enum-known-i
 enum-known-i c = search needs
 
 issue-at-requires : tie.Need-issue-at-requires
 issue-at-requires c κs =
-    let p = c .before .before .before .before .before .before .before .before .args .program .now in
-    let ia = c .before .before .before .before .before .c .given .0 .0 in
-    (c .before .before .before .before .before .before .before .before .pre .0, fetched-inside p (c .before .before .before .before .before .before .before .before .pre .1) ia _ (reading-is (fetched p ia) (c .before .before .before .fetch .ensures) (c .before .i .given .1)) .0)
+    let p = c .before .before .before .before .before .before .before .before .before .before .before .args .program .now in
+    let ia = c .before .before .before .before .before .before .before .c .given .0 .0 in
+    (c .before .before .before .before .before .before .before .before .before .before .before .pre .0, c .before .before .before .before .before .before .before .before .before .before .before .pre .1, fetched-inside p (c .before .before .before .before .before .before .before .before .before .before .before .pre .2) ia _ (sym (decoded-fetched p (c .before .before .before .before .before .before .before .before .before .before .before .pre .2) ia) ∙ reading-is (decoded p ia) (c .before .before .before .before .before .decode .ensures) (c .before .before .before .i .given .1)) .0)
 
-enum-known-n : tie.Need-enum-known-n
-enum-known-n c = search needs
-
-refused-requires : tie.Need-refused-requires
-refused-requires c κs = search needs
+enum-known-why : tie.Need-enum-known-why
+enum-known-why c = search needs
 
 enum-told : tie.Need-enum-told
 enum-told c = search needs
 
-refused-requires-2 : tie.Need-refused-requires-2
-refused-requires-2 c κs = search needs
+same-length : tie.Need-same-length
+same-length c = search needs
+
+same-length-2 : tie.Need-same-length-2
+same-length-2 c = search needs
 
 returns : tie.Need-returns
 returns c =
-    let p = c .before .before .before .before .before .before .before .before .before .args .program .now in
-    let ia = c .before .before .before .before .before .before .c .given .0 .0 in
-    let is = sym (fetched-program p (c .before .before .before .before .before .before .before .before .before .pre .1) ia) ∙ reading-is (fetched p ia) (c .before .before .before .before .fetch .ensures) (c .before .before .i .given .1) in
-    λ m. c .issue-at .ensures m ∙ sym (ap (answerOf (c .before .before .before .before .before .before .before .before .before .args .s)) (issue-there (instructionsOf p) (c .before .before .before .before .before .before .before .before .before .args .t) (c .before .before .before .before .before .before .before .before .before .args .s) m ia _ (c .before .before .before .before .before .before .c .given .1) is))
+    let p = c .before .before .before .before .before .before .before .before .before .before .before .before .before .before .before .args .program .now in
+    let ia = c .before .before .before .before .before .before .before .before .before .before .before .c .given .0 .0 in
+    at-counter (issue (instructionsOf p) (c .before .before .before .before .before .before .before .before .before .before .before .before .before .before .before .args .t)) (c .before .before .before .before .before .before .before .before .before .before .before .c .given .1) (issue-there (instructionsOf p) (c .before .before .before .before .before .before .before .before .before .before .before .before .before .before .before .args .t) ia refl _ (sym (fetched-program p (c .before .before .before .before .before .before .before .before .before .before .before .before .before .before .before .pre .2) ia) ∙ sym (decoded-fetched p (c .before .before .before .before .before .before .before .before .before .before .before .before .before .before .before .pre .2) ia) ∙ reading-is (decoded p ia) (c .before .before .before .before .before .before .before .before .before .decode .ensures) (c .before .before .before .before .before .before .before .i .given .1)) (c .before .before .before .issue-at .ensures))
 
 returns-2 : tie.Need-returns-2
 returns-2 c =
     let p = c .before .before .before .before .before .before .before .before .before .args .program .now in
-    let ia = c .before .before .before .before .before .before .c .given .0 .0 in
-    let none = sym (fetched-program p (c .before .before .before .before .before .before .before .before .before .pre .1) ia) ∙ reading-no (fetched p ia) (c .before .before .before .before .fetch .ensures) (c .before .before .n .given .1) in
-    λ m. c .refused .ensures ∙ sym (ap (answerOf (c .before .before .before .before .before .before .before .before .before .args .s)) (issue-there (instructionsOf p) (c .before .before .before .before .before .before .before .before .before .args .t) (c .before .before .before .before .before .before .before .before .before .args .s) m ia _ (c .before .before .before .before .before .before .c .given .1) none))
+    let ia = c .before .before .before .before .before .c .given .0 .0 in
+    at-counter (issue (instructionsOf p) (c .before .before .before .before .before .before .before .before .before .args .t)) (c .before .before .before .before .before .c .given .1) (issue-none (instructionsOf p) (c .before .before .before .before .before .before .before .before .before .args .t) ia refl _ (sym (fetched-program p (c .before .before .before .before .before .before .before .before .before .pre .2) ia) ∙ sym (decoded-fetched p (c .before .before .before .before .before .before .before .before .before .pre .2) ia) ∙ reading-no (decoded p ia) (c .before .before .before .decode .ensures) (c .before .why .given .1)) (c .before .before .before .before .before .before .before .before .before .pre .0) (c .before .before .before .before .before .before .before .before .before .pre .1))
 
 returns-3 : tie.Need-returns-3
-returns-3 c =
-    λ m. c .refused2 .ensures ∙ sym (ap (answerOf (c .before .before .before .before .args .s)) (issue-stalled (instructionsOf (c .before .before .before .before .args .program .now)) (c .before .before .before .before .args .t) (c .before .before .before .before .args .s) m (c .before .enum-told .given .1)))
+returns-3 c = issue-stalled (instructionsOf (c .before .before .before .before .args .program .now)) (c .before .before .before .before .args .t) (c .enum-told .given .1) (c .before .before .before .before .pre .0) (c .before .before .before .before .pre .1)
 
 pub issue-spec : {M : Type 1} → statement M
 issue-spec =
     tie.close
     (tie.spec
     enum-known-c
-    fetch-requires
+    decode-requires
     enum-known-i
     issue-at-requires
-    enum-known-n
-    refused-requires
+    enum-known-why
     enum-told
-    refused-requires-2
+    same-length
+    same-length-2
     returns
     returns-2
     returns-3)

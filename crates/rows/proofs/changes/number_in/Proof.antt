@@ -1,0 +1,26 @@
+-- `rows::changes::number_in` meets its contract.
+use mathlib.Core.Path.{sym}
+use lib.ListN.{List·getD-eq-default}
+use borrow.Author.Needs.{needs}
+use Rattle.rows.specs.Rows.{noWord}
+use Rattle.rows.proofs.Walks.{read-in}
+use Rattle.rows.proofs.changes.number_in.Statement.{statement}
+use Rattle.rows.proofs.changes.number_in.Tie as tie
+
+cast-i : tie.Need-cast-i
+cast-i c = search needs
+
+mul-result : tie.Need-mul-result
+mul-result c = search needs
+
+shared-slice-read-result : tie.Need-shared-slice-read-result
+shared-slice-read-result c = search needs
+
+returns : tie.Need-returns
+returns c = read-in (c .before .before .before .args .rf .now) (c .before .before .before .args .r .0) 0 noWord (c .before .if1 .taken)
+
+returns-2 : tie.Need-returns-2
+returns-2 c = sym (List·getD-eq-default (c .before .before .args .rf .now) noWord (c .if1 .left))
+
+pub number-in-spec : {M : Type 1} → statement M
+number-in-spec = tie.close (tie.spec cast-i mul-result shared-slice-read-result returns returns-2)

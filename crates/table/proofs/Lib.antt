@@ -1,4 +1,0 @@
--- Laws that belong to no one function.
-pub mod Walks
-pub mod Operands
-pub mod Placed
