@@ -1,5 +1,5 @@
 -- A public entry's promise admits one answer, and one content of the buffer that it was lent.
-use Prim.Native.Nat.{ℕ, _+_}
+use Prim.Native.Nat.{ℕ, _+_, min}
 use mathlib.Core.Path.{_≡_}
 use mathlib.Core.Bool.{Bool}
 use mathlib.Core.List.{List}
@@ -44,11 +44,13 @@ use Rattle.templates.specs.Templates.{waits}
 use Rattle.templates.specs.Machine as Mach
 use Rattle.templates.specs.Layout.{machOf, stateOf}
 use Rattle.templates.specs.Layout as Layout
-use Rattle.rows.specs.Rows.{Row, kindAt, operationAt, tagAt, addressAt, valueAt, firstAt, secondAt, producedIn, inRegister, filledBehind, without}
+use Rattle.rows.specs.Rows.{Row, rowAt, itbOf, kindAt, operationAt, tagAt, addressAt, valueAt, firstAt, secondAt, contentsAt, producedIn, inRegister, filledBehind, without}
 use Rattle.rows.specs.Rows as Rows
 use Rattle.rows.specs.Shown.{laidTemplates, laidRegisters}
-use Rattle.rows.specs.Answers.{Finishes, Fills, Holds, Adds, Turns, TurnsRegisters}
+use Rattle.rows.specs.Answers.{Finishes, Fills, Holds, TurnsRegisters}
+use Rattle.rows.specs.Answers as Answers
 use Rattle.sound.specs.Sound as Sound
+use Rattle.sound.specs.Search as Search
 use Rattle.rules.specs.declared.Rule.{Rule}
 use Rattle.rules.specs.declared.Command.{Command}
 use Rattle.rules.specs.Drain as Drain
@@ -114,6 +116,7 @@ pub record OneAnswers : Type 0 where
   pub start : OneAnswer (λ (r′ : State). r′ ≡ stateOf Mach.start)
   pub waitsFor : (o : Operand) (t : Tag) → OneAnswer (λ (r′ : Bool). r′ ≡ waits t o)
   pub blank : OneAnswer (λ (r′ : Template). r′ ≡ Layout.blank)
+  pub held : (ts : List Row) (n : ℕ) → OneAnswer (λ (r′ : ℕ). r′ ≡ min n (length ts))
   pub kind : (ts : List Row) (p : ℕ) → OneAnswer (λ (r′ : ℕ). r′ ≡ kindAt ts p)
   pub operation : (ts : List Row) (p : ℕ) → OneAnswer (λ (r′ : ℕ). r′ ≡ operationAt ts p)
   pub tag : (ts : List Row) (p : ℕ) → OneAnswer (λ (r′ : Tag). r′ ≡ tagAt ts p)
@@ -121,18 +124,20 @@ pub record OneAnswers : Type 0 where
   pub value : (ts : List Row) (p : ℕ) → OneAnswer (λ (r′ : Value). r′ ≡ valueAt ts p)
   pub first : (ts : List Row) (p : ℕ) → OneAnswer (λ (r′ : Operand). r′ ≡ firstAt ts p)
   pub second : (ts : List Row) (p : ℕ) → OneAnswer (λ (r′ : Operand). r′ ≡ secondAt ts p)
+  pub contents : (rf : List ℕ) (i : ℕ) → OneAnswer (λ (r′ : Operand). r′ ≡ contentsAt rf i)
   pub heldBehind : (ts : List Row) (n p : ℕ) → OneAnswer (λ (r′ : Bool). r′ ≡ Rows.heldBehind n p ts)
   pub memoryBefore : (ts : List Row) (n : ℕ) → OneAnswer (λ (r′ : Bool). r′ ≡ Rows.memoryBefore n ts)
   pub produced : (ts : List Row) (n : ℕ) (t : Tag) → OneAnswer (λ (r′ : Bool). r′ ≡ producedIn n t ts)
   pub heldByRegister : (rf : List ℕ) (t : Tag) → OneAnswer (λ (r′ : Bool). r′ ≡ inRegister t rf)
+  pub filledFrom : (ts : List Row) (from : ℕ) → OneAnswer (λ (r′ : Bool). r′ ≡ Rows.filledFrom from ts)
   pub fillBehind : (ts : List Row) (n p : ℕ) → OneAnswer (λ (r′ : List Row). r′ ≡ filledBehind n p ts)
   pub remove : (ts : List Row) (n p : ℕ) → OneAnswer (λ (r′ : List Row). r′ ≡ without n p ts)
   pub finish : (ts : List Row) (p : ℕ) (v : Value) → OneAnswer (Finishes p v ts)
   pub fillRegisters : (rf : List ℕ) (t : Tag) (v : Value) → OneAnswer (Fills t v rf)
-  pub hold : (rf : List ℕ) (r : Reg) (t : Tag) → OneAnswer (Holds r t rf)
-  pub add : (ts : List Row) (n : ℕ) (rf : List ℕ) (ia : InstrAddr) (t : Tag) (i : Instr) → OneAnswer (Adds n rf ia t i ts)
-  pub table : (ts : List Template) (n : ℕ) → OneAnswer (Turns n ts)
+  pub hold : (rf : List ℕ) (r : Reg) (o : Operand) → OneAnswer (Holds r o rf)
+  pub put : (ts : List Row) (p : ℕ) (x : Template) → OneAnswer (Answers.Puts p x ts)
   pub numbers : (rf : List Register) → OneAnswer (TurnsRegisters rf)
+  pub template : (ts : List Row) (p : ℕ) → OneAnswer (λ (r′ : Template). r′ ≡ Layout.template (itbOf (rowAt ts p)))
   pub templates : (ts : List Row) (n : ℕ) → OneAnswer (λ (r′ : List Template). r′ ≡ laidTemplates n ts)
   pub registers : (rf : List ℕ) → OneAnswer (λ (r′ : List Register). r′ ≡ laidRegisters rf)
   pub forward : (ts : List Row) (n p : ℕ) → OneAnswer (λ (r′ : ℕ). r′ ≡ number (forwarding n p ts))
@@ -148,3 +153,4 @@ pub record OneAnswers : Type 0 where
   pub asks : (w : Work) → OneAnswer (λ (r′ : Rule). r′ ≡ Drain.asks w)
   pub refusalAt : (s : State) (r : Rule) (place : ℕ) (b : List ℕ) → OneAnswer (λ (r′ : ℕ). r′ ≡ Drain.refusalAt r place (machOf s) (cells b))
   pub isSound : (s : State) (instructions : ℕ) → OneAnswer (λ (r′ : Bool). r′ ≡ Sound.isSound instructions s)
+  pub soundOn : (ts : List Row) (rf : List ℕ) (c : Counter) (n instructions : ℕ) → OneAnswer (λ (r′ : Bool). r′ ≡ Search.soundOn instructions c n ts rf)

@@ -1,14 +1,14 @@
 -- A rule at a place of the machine that the rows show is what it answers on the rows.
-use mathlib.Core.Path.{_≡_, refl, sym, ap, ap₂, _∙_}
-use Prim.Native.Nat.{ℕ, zero, suc, _≤_, _<_}
+use mathlib.Core.Path.{_≡_, refl, sym, ap, _∙_}
+use Prim.Native.Nat.{ℕ, suc, _≤_, _<_}
 use native.Mathlib.Decide.{decLt}
 use native.Mathlib.Omega.{arith}
 use mathlib.Core.Bool.{Bool, true, false, cond, _||_}
-use mathlib.Core.List.{List, [], _∷_, _++_}
-use lib.Dec.{eqb, ltb}
-use lib.ListN.{length, getD, take, drop}
+use mathlib.Core.List.{List, _∷_, _++_}
+use lib.Dec.{eqb}
+use lib.ListN.{length, take, drop}
 use borrow.Author.Tests.{lt-ltb, le-ltb}
-use Rattle.records.specs.Refusal.{noTemplate, notHeld, stillHeld, otherWay}
+use Rattle.records.specs.Refusal.{earlierMemory, notHeld, stillHeld, otherWay}
 use Rattle.records.specs.Try.{Try, got, fails}
 use Rattle.value.specs.declared.Value.{Value}
 use Rattle.value.specs.declared.Value.the-variants.{Undefined, Word}
@@ -23,10 +23,11 @@ use Rattle.templates.specs.declared.Register.{Register}
 use Rattle.templates.specs.declared.Work.{Work}
 use Rattle.templates.specs.declared.Work.the-variants.{Done}
 use Rattle.templates.specs.Templates.{anyReg, fillRegs}
-use Rattle.templates.specs.Machine.{Itb, ITB, nothing, anyHolds, anyMemory, fillAll, Mach, mach}
-use Rattle.rows.specs.Rows.{Row, head, one, two, rowAt, kindAt, operationAt, tagAt, addressAt, valueAt, firstAt, secondAt, workBy, itbOf, heldBehind, memoryBefore, inRegister}
+use Rattle.templates.specs.Machine.{Itb, ITB, fillAll, Mach, mach}
+use Rattle.rows.specs.Rows.{Row, aValue, anOp, aJz, aLoad, aStore, rowAt, operationAt, tagAt, addressAt, valueAt, firstAt, secondAt, itbOf, heldBehind, memoryBefore, inRegister}
 use Rattle.rows.specs.Shown.{heldOf, regsOf, Table, File}
-use Rattle.rows.proofs.Showing.{held-long, here, kind-most, searched, searched-memory, searched-registers}
+use Rattle.rows.proofs.Showing.{held-long, here, searched, searched-memory, searched-registers}
+use Rattle.rows.proofs.Works.{by-kind}
 use Rattle.rules.specs.declared.Rule.{Rule}
 use Rattle.rules.specs.declared.Rule.the-variants as Rule
 use Rattle.rules.specs.Rules.{Step, accepted, refused, tried, known, condition, storing, becomes, goTo, rule, apply}
@@ -53,18 +54,9 @@ module _ {A : Type 0} (F : A → Step) where
       either true = refl
       either false = refl
 
-  ordered : (b : Bool) (t : Try A) → cond b (refused 15) (tried F t) ≡ tried F (inOrder b t)
+  ordered : (b : Bool) (t : Try A) → cond b (refused earlierMemory) (tried F t) ≡ tried F (inOrder b t)
   ordered true t = refl
   ordered false t = refl
-
--- by the five kinds
-five : (P : ℕ → Type 0) → P 0 → P 1 → P 2 → P 3 → P 4 → (k : ℕ) → k ≤ 4 → P k
-five P a b c d e zero h = a
-five P a b c d e (suc zero) h = b
-five P a b c d e (suc (suc zero)) h = c
-five P a b c d e (suc (suc (suc zero))) h = d
-five P a b c d e (suc (suc (suc (suc zero)))) h = e
-five P a b c d e (suc (suc (suc (suc (suc k))))) h = absurd (omega (arith, h))
 
 -- ---- at a place
 
@@ -84,16 +76,12 @@ module _ {n p : ℕ} {ts : List Row} (t : Table n ts) (h : p < n) (c : Counter) 
   abbrev tag : Tag
   tag = tagAt ts p
 
-  abbrev by : Rule → ℕ → Step
-  by r k = rule r σ m pre a post (workBy k (head (rowAt ts p)) (one (rowAt ts p)) (two (rowAt ts p)))
+  abbrev by : Rule → Work → Step
+  by r w = rule r σ m pre a post w
 
-  pub at : (r : Rule) → apply r p σ m ≡ by r (kindAt ts p)
+  pub at : (r : Rule) → apply r p σ m ≡ by r (itbOf (rowAt ts p) .work)
   unfolding apply
   at r = rw (lt-ltb p (length (heldOf n ts)) (omega (arith, held-long t)), ← here t h) refl
-
-  -- the rule by its answer, whatever the kind
-  abbrev Reads : {A : Type 0} → Rule → (A → Step) → ℕ → Try A → Type 0
-  Reads r F kind T = (k : ℕ) → k ≤ 4 → by r k ≡ tried F (ofKind kind k T)
 
   abbrev finishing : Value → Step
   finishing v = becomes σ m pre a post (Done tag v)
@@ -102,17 +90,17 @@ module _ {n p : ℕ} {ts : List Row} (t : Table n ts) (h : p < n) (c : Counter) 
   operate-reads =
       let T : Try Value = needing (λ u. needing (λ v. got (result (operationAt ts p) u v)) (secondAt ts p)) (firstAt ts p) in
       at Rule.Operate
-      ∙ five (λ k. by Rule.Operate k ≡ tried finishing (ofKind 1 k T))
-      refl (two-known finishing (λ u v. got (result (operationAt ts p) u v)) (firstAt ts p) (secondAt ts p)) refl refl refl (kindAt ts p) (kind-most t h)
+      ∙ by-kind ts p t h (λ k w. by Rule.Operate w ≡ tried finishing (ofKind anOp k T))
+      refl (two-known finishing (λ u v. got (result (operationAt ts p) u v)) (firstAt ts p) (secondAt ts p)) refl refl refl
 
   pub load-reads : apply Rule.Load p σ m ≡ tried finishing (loading m p ts)
   load-reads =
       let T : Try Value = inOrder (memoryBefore p ts) (needing (λ u. readAt m u) (firstAt ts p)) in
       at Rule.Load
-      ∙ five (λ k. by Rule.Load k ≡ tried finishing (ofKind 3 k T))
+      ∙ by-kind ts p t h (λ k w. by Rule.Load w ≡ tried finishing (ofKind aLoad k T))
       refl refl refl
-      (rw (← searched-memory t h) (ap (cond (memoryBefore p ts) (refused 15)) (one-known finishing (readAt m) (firstAt ts p)) ∙ ordered finishing (memoryBefore p ts) (needing (readAt m) (firstAt ts p))))
-      refl (kindAt ts p) (kind-most t h)
+      (rw (← searched-memory t h) (ap (cond (memoryBefore p ts) (refused earlierMemory)) (one-known finishing (readAt m) (firstAt ts p)) ∙ ordered finishing (memoryBefore p ts) (needing (readAt m) (firstAt ts p))))
+      refl
 
   abbrev writing : List Value → Step
   writing m′ = accepted (mach c rs (pre ++ post)) m′
@@ -121,10 +109,9 @@ module _ {n p : ℕ} {ts : List Row} (t : Table n ts) (h : p < n) (c : Counter) 
   store-reads =
       let T : Try (List Value) = inOrder (memoryBefore p ts) (needing (λ u. needing (λ v. writeAt m u v) (secondAt ts p)) (firstAt ts p)) in
       at Rule.Store
-      ∙ five (λ k. by Rule.Store k ≡ tried writing (ofKind 4 k T))
+      ∙ by-kind ts p t h (λ k w. by Rule.Store w ≡ tried writing (ofKind aStore k T))
       refl refl refl refl
-      (rw (← searched-memory t h) (ap (cond (memoryBefore p ts) (refused 15)) (two-known writing (writeAt m) (firstAt ts p) (secondAt ts p)) ∙ ordered writing (memoryBefore p ts) (needing (λ u. needing (λ v. writeAt m u v) (secondAt ts p)) (firstAt ts p))))
-      (kindAt ts p) (kind-most t h)
+      (rw (← searched-memory t h) (ap (cond (memoryBefore p ts) (refused earlierMemory)) (two-known writing (writeAt m) (firstAt ts p) (secondAt ts p)) ∙ ordered writing (memoryBefore p ts) (needing (λ u. needing (λ v. writeAt m u v) (secondAt ts p)) (firstAt ts p))))
 
   abbrev going : InstrAddr → Step
   going ia = goTo σ m pre a post ia
@@ -133,8 +120,8 @@ module _ {n p : ℕ} {ts : List Row} (t : Table n ts) (h : p < n) (c : Counter) 
   jump-reads =
       let T : Try InstrAddr = needing (branching (targeted (secondAt ts p)) (fails otherWay)) (firstAt ts p) in
       at Rule.Jump
-      ∙ five (λ k. by Rule.Jump k ≡ tried going (ofKind 2 k T))
-      refl refl (jumped (firstAt ts p) (secondAt ts p)) refl refl (kindAt ts p) (kind-most t h)
+      ∙ by-kind ts p t h (λ k w. by Rule.Jump w ≡ tried going (ofKind aJz k T))
+      refl refl (jumped (firstAt ts p) (secondAt ts p)) refl refl
     where
       jumped : (x y : Operand) → known (λ u. condition (known (λ v. tried going (target v)) y) (refused otherWay) u) x ≡ tried going (needing (branching (targeted y) (fails otherWay)) x)
       jumped (Known u) y = ap (λ (s : Step). condition s (refused otherWay) u) (one-known going target y) ∙ branched going (targeted y) (fails otherWay) u
@@ -145,8 +132,8 @@ module _ {n p : ℕ} {ts : List Row} (t : Table n ts) (h : p < n) (c : Counter) 
       let F : Unit {0} → Step = λ _. going (next a) in
       let T : Try (Unit {0}) = needing (branching (fails otherWay) (got tt)) (firstAt ts p) in
       at Rule.NoJump
-      ∙ five (λ k. by Rule.NoJump k ≡ tried F (ofKind 2 k T))
-      refl refl (fallen (firstAt ts p)) refl refl (kindAt ts p) (kind-most t h)
+      ∙ by-kind ts p t h (λ k w. by Rule.NoJump w ≡ tried F (ofKind aJz k T))
+      refl refl (fallen (firstAt ts p)) refl refl
     where
       fallen : (x : Operand) → known (λ u. condition (refused otherWay) (going (next a)) u) x ≡ tried (λ (_ : Unit {0}). going (next a)) (needing (branching (fails otherWay) (got tt)) x)
       fallen (Known u) = branched (λ (_ : Unit {0}). going (next a)) (fails otherWay) (got tt) u
@@ -170,8 +157,8 @@ module _ {n p : ℕ} {ts : List Row} (t : Table n ts) (h : p < n) (c : Counter) 
       let F : Unit {0} → Step = λ _. forwarded in
       let T : Try (Unit {0}) = cond (heldBehind n p ts) (got tt) (fails notHeld) in
       at Rule.Forward
-      ∙ five (λ k. by Rule.Forward k ≡ tried F (ofKind 0 k T))
-      (rw (← searched t h) (unless (heldBehind n p ts) forwarded)) refl refl refl refl (kindAt ts p) (kind-most t h)
+      ∙ by-kind ts p t h (λ k w. by Rule.Forward w ≡ tried F (ofKind aValue k T))
+      (rw (← searched t h) (unless (heldBehind n p ts) forwarded)) refl refl refl refl
 
   abbrev pub committed : Step
   committed = accepted (mach c (fillRegs tag (valueAt ts p) rs) (pre ++ ITB a (Done tag (valueAt ts p)) ∷ post)) m
@@ -186,8 +173,8 @@ module _ {n p : ℕ} {ts : List Row} (t : Table n ts) (h : p < n) (c : Counter) 
         let T : Try (Unit {0}) = cond (inRegister tag rf) (got tt) (fails notHeld) in
         let same : inRegister tag rf ≡ anyReg tag rs = searched-registers f tag ∙ ap (anyReg tag) (sym e) in
         at Rule.Commit
-        ∙ five (λ k. by Rule.Commit k ≡ tried F (ofKind 0 k T))
-        (rw (← same) (unless (inRegister tag rf) committed)) refl refl refl refl (kindAt ts p) (kind-most t h)
+        ∙ by-kind ts p t h (λ k w. by Rule.Commit w ≡ tried F (ofKind aValue k T))
+        (rw (← same) (unless (inRegister tag rf) committed)) refl refl refl refl
 
     pub retire-reads : apply Rule.Retire p σ m ≡ tried (λ _. gone) (retiring n p ts rf)
     retire-reads =
@@ -195,8 +182,8 @@ module _ {n p : ℕ} {ts : List Row} (t : Table n ts) (h : p < n) (c : Counter) 
         let T : Try (Unit {0}) = cond (inRegister tag rf || heldBehind n p ts) (fails stillHeld) (got tt) in
         let same : inRegister tag rf ≡ anyReg tag rs = searched-registers f tag ∙ ap (anyReg tag) (sym e) in
         at Rule.Retire
-        ∙ five (λ k. by Rule.Retire k ≡ tried F (ofKind 0 k T))
-        (rw (← same, ← searched t h) (if (inRegister tag rf || heldBehind n p ts) gone)) refl refl refl refl (kindAt ts p) (kind-most t h)
+        ∙ by-kind ts p t h (λ k w. by Rule.Retire w ≡ tried F (ofKind aValue k T))
+        (rw (← same, ← searched t h) (if (inRegister tag rf || heldBehind n p ts) gone)) refl refl refl refl
 
 -- ---- the refusal is the number
 

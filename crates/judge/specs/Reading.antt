@@ -1,5 +1,5 @@
 -- What a rule answers at place p of the first n rows: what it makes, or the number for no, in the scope paper's order.
-use Prim.Native.Nat.{ℕ, suc}
+use Prim.Native.Nat.{ℕ}
 use mathlib.Core.Bool.{Bool, cond, _||_}
 use mathlib.Core.List.{List}
 use lib.Dec.{eqb, ltb}
@@ -16,7 +16,7 @@ use Rattle.kernel.specs.declared.Reached.the-variants as Reached
 use Rattle.kernel.specs.Kernel.{readAt, writeAt, target, number}
 use Rattle.templates.specs.declared.Operand.{Operand}
 use Rattle.templates.specs.declared.Operand.the-variants.{Known, Waits}
-use Rattle.rows.specs.Rows.{Row, kindAt, operationAt, tagAt, firstAt, secondAt, heldBehind, memoryBefore, inRegister}
+use Rattle.rows.specs.Rows.{Row, aValue, anOp, aJz, aLoad, aStore, kindAt, operationAt, tagAt, firstAt, secondAt, heldBehind, memoryBefore, inRegister}
 use Rattle.rules.specs.declared.Rule.{Rule}
 use Rattle.rules.specs.declared.Rule.the-variants as Rule
 
@@ -45,15 +45,15 @@ branching zero other (Word w) = cond (eqb w 0) zero other
 -- ---- the value that the template becomes
 
 abbrev pub operating : ℕ → List Row → Try Value
-operating p ts = ofKind 1 (kindAt ts p) (needing (λ u. needing (λ v. got (result (operationAt ts p) u v)) (secondAt ts p)) (firstAt ts p))
+operating p ts = ofKind anOp (kindAt ts p) (needing (λ u. needing (λ v. got (result (operationAt ts p) u v)) (secondAt ts p)) (firstAt ts p))
 
 abbrev pub loading : List Value → ℕ → List Row → Try Value
-loading m p ts = ofKind 3 (kindAt ts p) (inOrder (memoryBefore p ts) (needing (λ u. readAt m u) (firstAt ts p)))
+loading m p ts = ofKind aLoad (kindAt ts p) (inOrder (memoryBefore p ts) (needing (λ u. readAt m u) (firstAt ts p)))
 
 -- ---- memory after it
 
 abbrev pub storing : List Value → ℕ → List Row → Try (List Value)
-storing m p ts = ofKind 4 (kindAt ts p) (inOrder (memoryBefore p ts) (needing (λ u. needing (λ v. writeAt m u v) (secondAt ts p)) (firstAt ts p)))
+storing m p ts = ofKind aStore (kindAt ts p) (inOrder (memoryBefore p ts) (needing (λ u. needing (λ v. writeAt m u v) (secondAt ts p)) (firstAt ts p)))
 
 -- ---- where the counter goes
 
@@ -61,23 +61,23 @@ abbrev pub targeted : Operand → Try InstrAddr
 targeted o = needing target o
 
 abbrev pub jumping : ℕ → List Row → Try InstrAddr
-jumping p ts = ofKind 2 (kindAt ts p) (needing (branching (targeted (secondAt ts p)) (fails otherWay)) (firstAt ts p))
+jumping p ts = ofKind aJz (kindAt ts p) (needing (branching (targeted (secondAt ts p)) (fails otherWay)) (firstAt ts p))
 
 -- ---- nothing but the number
 
 abbrev pub falling : ℕ → List Row → Try (Unit {0})
-falling p ts = ofKind 2 (kindAt ts p) (needing (branching (fails otherWay) (got tt)) (firstAt ts p))
+falling p ts = ofKind aJz (kindAt ts p) (needing (branching (fails otherWay) (got tt)) (firstAt ts p))
 
 -- 13: nothing holds the tag
 abbrev pub forwarding : ℕ → ℕ → List Row → Try (Unit {0})
-forwarding n p ts = ofKind 0 (kindAt ts p) (cond (heldBehind n p ts) (got tt) (fails notHeld))
+forwarding n p ts = ofKind aValue (kindAt ts p) (cond (heldBehind n p ts) (got tt) (fails notHeld))
 
 abbrev pub committing : ℕ → List Row → List ℕ → Try (Unit {0})
-committing p ts rf = ofKind 0 (kindAt ts p) (cond (inRegister (tagAt ts p) rf) (got tt) (fails notHeld))
+committing p ts rf = ofKind aValue (kindAt ts p) (cond (inRegister (tagAt ts p) rf) (got tt) (fails notHeld))
 
 -- 14: it is held
 abbrev pub retiring : ℕ → ℕ → List Row → List ℕ → Try (Unit {0})
-retiring n p ts rf = ofKind 0 (kindAt ts p) (cond (inRegister (tagAt ts p) rf || heldBehind n p ts) (fails stillHeld) (got tt))
+retiring n p ts rf = ofKind aValue (kindAt ts p) (cond (inRegister (tagAt ts p) rf || heldBehind n p ts) (fails stillHeld) (got tt))
 
 -- ---- the rule's number, 0 if it is accepted
 

@@ -1,9 +1,8 @@
 // What a rule other than issue answers at a place of the working table, and its refusal at a place of a state; nothing is done.
 ghost use mathlib.Core.Path.{_≡_};
-ghost use Prim.Native.Nat.{min};
 ghost use Rattle.cells.specs.Cells.{cells, answer};
 ghost use Rattle.kernel.specs.Kernel.{reached, number};
-ghost use Rattle.templates.specs.Layout.{places, machOf};
+ghost use Rattle.templates.specs.Layout.{machOf};
 ghost use Rattle.rules.specs.Drain.{asks, refusalAt};
 ghost use Rattle.judge.specs.Reading.{operating, loading, storing, jumping, falling, forwarding, committing, retiring, targeted, loadRefusal, jumpRefusal, refusalOn};
 use cells::Loaded;
@@ -175,7 +174,7 @@ fn store_refusal(ts: &[[u64; 3]], p: usize, memory: &[u8]) -> u8
     }
 }
 
-// Of a rule at place p of n templates: 0 if it is accepted there.
+// The refusal of a rule at place p of n templates: 0 if it is accepted there.
 pub fn refusal_on(ts: &[[u64; 3]], rf: &[u64], n: usize, rule: Rule, p: usize, memory: &[u8]) -> u8
     ensures { λ r. ⌜ r ≡ refusalOn n p (now (ts .entry)) (now (rf .entry)) (cells (now (memory .entry))) rule ⌝ }
 {
@@ -194,21 +193,20 @@ pub fn refusal_on(ts: &[[u64; 3]], rf: &[u64], n: usize, rule: Rule, p: usize, m
     }
 }
 
-fn held(count: usize) -> usize
-    ensures { λ r. ⌜ r ≡ min count places ⌝ }
-{
-    if count < PLACES { count } else { PLACES }
-}
-
 // The same at any place of any state.
 pub fn refusal_at(state: State, rule: Rule, place: usize, memory: &[u8]) -> u8
     ensures { λ r. ⌜ r ≡ refusalAt rule place (machOf state) (cells (now (memory .entry))) ⌝ }
 {
-    let templates = state.templates;
     let registers = state.registers;
-    let n = held(state.count);
-    let ts = rows::table(templates, n);
-    let rf = rows::numbers(registers);
+    let rf = table::numbers(registers);
+    let mut ts = [rows::BLANK; PLACES];
+    let mut i: usize = 0;
+    while i < PLACES {
+        let x = state.templates[i];
+        rows::put(&mut ts, i, x);
+        i += 1;
+    }
+    let n = rows::held(&ts, state.count);
     refusal_on(&ts, &rf, n, rule, place, memory)
 }
 

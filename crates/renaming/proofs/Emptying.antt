@@ -1,48 +1,40 @@
--- The loop of a drain is the drain, and what blocks it is the oldest template's refusal.
+-- The loop of a drain is the drain.
 use mathlib.Core.Path.{_≡_, refl, sym, ap, ap₂, subst, _∙_}
 use mathlib.Core.Logic.{_≢_}
 use Prim.Native.Nat.{ℕ, zero, suc, _+_, _-_, _<_, _≤_}
 use native.Mathlib.Numerals.{add-one}
 use native.Mathlib.Omega.{arith}
-use mathlib.Core.Bool.{cond}
 use mathlib.Core.List.{List, [], _∷_}
-use lib.Dec.{eqb}
-use lib.ListN.{length, take, drop, getD}
-use borrow.Author.Tests.{ne-eqb}
+use lib.ListN.{length, take, drop}
 use Rattle.records.specs.declared.Verdict.{Verdict}
 use Rattle.records.specs.Refusal.{noTemplate}
 use Rattle.value.specs.declared.Value.{Value}
-use Rattle.isa.specs.declared.InstrAddr.{InstrAddr}
 use Rattle.cells.specs.Cells.{cells, image, Formed}
 use Rattle.kernel.proofs.Checking.{refuses, works}
 use Rattle.templates.specs.declared.Counter.{Counter}
 use Rattle.templates.specs.declared.Register.{Register}
-use Rattle.templates.specs.declared.Template.{Template}
 use Rattle.templates.specs.declared.State.{State}
 use Rattle.templates.specs.declared.Work.{Work}
 use Rattle.templates.specs.Machine.{Itb, Mach}
-use Rattle.templates.specs.Layout.{blank, lay, machOf}
-use Rattle.sound.specs.Sound.{soundMach}
-use Rattle.sound.proofs.Soundness.{Sound}
 use Rattle.sound.proofs.Decides.{sound-said}
-use Rattle.rows.specs.Rows.{Row, rowAt, itbOf, kindAt, tagAt, addressAt}
+use Rattle.rows.specs.Rows.{Row, aValue, anOp, aJz, aLoad, rowAt, itbOf, kindAt, tagAt, addressAt}
 use Rattle.rows.specs.Rows as Rows
 use Rattle.rows.specs.Shown.{heldOf, regsOf, Table, File}
 use Rattle.rows.proofs.Showing.{held-long}
+use Rattle.rows.proofs.Works.{work-value, work-op, work-jz, work-load, work-store}
 use Rattle.rules.specs.declared.Rule.{Rule}
 use Rattle.rules.specs.declared.Rule.the-variants as Rule
 use Rattle.rules.specs.Rules as Rules
 use Rattle.rules.specs.Rules.{Step, refused, apply}
-use Rattle.rules.specs.Drain.{first, rules, firstOf, seek, oldest, Drained, further, drainFrom, drain, due, dueValue, dueJump, asks, blocking, blockedAt, refusalAt}
+use Rattle.rules.specs.Drain.{first, rules, firstOf, seek, oldest, Drained, further, drainFrom, drain, due, dueValue, dueJump}
 use Rattle.rules.proofs.Due.{firstAt, same}
 use Rattle.rules.proofs.Keeping.{StaysSound, apply-keeps-sound}
 use Rattle.rules.proofs.Numbered.{Numbered, apply-numbered}
 use Rattle.judge.proofs.Answering.{at}
 use Rattle.entry.specs.Entry.{entered}
 use Rattle.renaming.specs.declared.Now.{Now}
-use Rattle.renaming.specs.declared.Emptied.{Emptied}
 use Rattle.renaming.specs.declared.Settled.{Settled}
-use Rattle.renaming.specs.Entries.{settled, drained, drainedMemory, Drains, Empties}
+use Rattle.renaming.specs.Entries.{drained, drainedMemory, Drains, Empties}
 use Rattle.renaming.specs.Working.{shows, Inside, Stands, Acts, DrainsTo}
 use Rattle.renaming.proofs.Steps.{came-accepted, came-refused}
 
@@ -199,17 +191,6 @@ module _ {d : Drained} {b₀ : List ℕ} {c : Counter} {n : ℕ} {ts : List Row}
             formed = λ f. a .formed (l .formed f);
           }
 
--- ---- what blocks: the oldest of the templates xs, in a state that is their layout
-
-pub blocking-is : (σ : Mach) (m : List Value) (xs : List Itb) (n : ℕ) → length xs ≡ n → {w : Work} → w ≡ getD (lay xs) 0 blank .work
-    → cond (eqb n 0) 0 (refusalAt (asks w) 0 σ m) ≡ blocking σ m xs
-blocking-is σ m [] n l e = rw (← l) refl
-blocking-is σ m (x ∷ xs) n l e = rw (ne-eqb n 0 (λ q. omega (arith, l, q))) (ap (λ (w : Work). refusalAt (asks w) 0 σ m) e)
-
-pub blocked-is : (xs : List Itb) {a : InstrAddr} → a ≡ getD (lay xs) 0 blank .address → a ≡ blockedAt xs
-blocked-is [] e = e
-blocked-is (x ∷ xs) e = e
-
 -- ---- the entry
 
 module _ (p : List ℕ) (s : State) (b : List ℕ) {v : Verdict} (c : v ≡ entered p b s) where
@@ -238,17 +219,17 @@ module _ (rs : List Register) (post : List Itb) (ts : List Row) (p : ℕ) where
   abbrev dueAt : Rule
   dueAt = due rs post (itbOf (rowAt ts p) .work)
 
-  pub due-value : kindAt ts p ≡ 0 → dueAt ≡ dueValue rs post (tagAt ts p)
-  due-value e = rw e refl
+  pub due-value : kindAt ts p ≡ aValue → dueAt ≡ dueValue rs post (tagAt ts p)
+  due-value e = ap (due rs post) (work-value ts p e)
 
-  pub due-op : kindAt ts p ≡ 1 → dueAt ≡ Rule.Operate
-  due-op e = rw e refl
+  pub due-op : kindAt ts p ≡ anOp → dueAt ≡ Rule.Operate
+  due-op e = ap (due rs post) (work-op ts p e)
 
-  pub due-jz : kindAt ts p ≡ 2 → dueAt ≡ dueJump (Rows.firstAt ts p)
-  due-jz e = rw e refl
+  pub due-jz : kindAt ts p ≡ aJz → dueAt ≡ dueJump (Rows.firstAt ts p)
+  due-jz e = ap (due rs post) (work-jz ts p e)
 
-  pub due-load : kindAt ts p ≡ 3 → dueAt ≡ Rule.Load
-  due-load e = rw e refl
+  pub due-load : kindAt ts p ≡ aLoad → dueAt ≡ Rule.Load
+  due-load e = ap (due rs post) (work-load ts p e)
 
-  pub due-store : kindAt ts p ≢ 0 → kindAt ts p ≢ 1 → kindAt ts p ≢ 2 → kindAt ts p ≢ 3 → dueAt ≡ Rule.Store
-  due-store a b d e = rw (ne-eqb (kindAt ts p) 0 a, ne-eqb (kindAt ts p) 1 b, ne-eqb (kindAt ts p) 2 d, ne-eqb (kindAt ts p) 3 e) refl
+  pub due-store : kindAt ts p ≢ aValue → kindAt ts p ≢ anOp → kindAt ts p ≢ aJz → kindAt ts p ≢ aLoad → dueAt ≡ Rule.Store
+  due-store a b d e = ap (due rs post) (work-store ts p a b d e)

@@ -1,17 +1,19 @@
 -- A state that was checked is the layout of a sound machine, whose templates are inside the program.
 use mathlib.Core.Path.{_≡_, refl, sym, ap, _∙_}
+use mathlib.Core.Logic.{_≢_}
 use Prim.Native.Nat.{ℕ, zero, suc, _/_, _≤_, _<_}
 use native.Mathlib.Omega.{arith}
-use mathlib.Core.Bool.{Bool, true, false, cond}
+use mathlib.Core.Bool.{Bool, true, false, cond, not}
 use mathlib.Core.List.{List, [], _∷_}
 use lib.ListN.{length, getD}
+use borrow.Author.Tests.{eq-eqb, ne-eqb, not-true, not-false}
 use Rattle.records.specs.declared.Verdict.{Verdict}
 use Rattle.records.specs.Refusal.{unsound}
 use Rattle.records.specs.Scan.{verdict, accepted}
 use Rattle.isa.specs.Program as Program
 use Rattle.isa.proofs.Programs.{program-whole}
 use Rattle.cells.specs.Cells.{Formed}
-use Rattle.kernel.specs.Checks.{checked}
+use Rattle.kernel.specs.Checks.{first, checked}
 use Rattle.kernel.proofs.Checking.{both-accept, checked-program, checked-memory}
 use Rattle.templates.specs.declared.State.{State}
 use Rattle.templates.specs.Machine.{Itb, nothing, Mach}
@@ -49,6 +51,24 @@ module _ (p b : List ℕ) (s : State) {v : Verdict} (e : Enters p b s v) (h : v 
         sound = sound-said (length p / 8) (machOf s) .says (sound-machine (length p / 8) s (e .long) (passed .1));
       }
 
+-- ---- the checks, one after the other; r is what soundness was found to be
+
+module _ (p b : List ℕ) {v : Verdict} (e : v ≡ checked p b) where
+  abbrev both : Bool → Verdict
+  both t = first (checked p b) (cond t accepted (verdict unsound 0))
+
+  pub checks-refuse : (t : Bool) → v .refusal ≢ 0 → v ≡ both t
+  checks-refuse t h = e ∙ sym (rw (ne-eqb (checked p b .refusal) 0 (λ q. h (ap (λ (w : Verdict). w .refusal) e ∙ q))) refl)
+
+  checks-pass : v .refusal ≡ 0 → (t : Bool) → cond t accepted (verdict unsound 0) ≡ both t
+  checks-pass h t = sym (rw (eq-eqb (checked p b .refusal) 0 (sym (ap (λ (w : Verdict). w .refusal) e) ∙ h)) refl)
+
+  pub checks-unsound : v .refusal ≡ 0 → {r t : Bool} → r ≡ t → not r ≡ true → verdict unsound 0 ≡ both t
+  checks-unsound h {r} {t} q n = ap (λ (y : Bool). cond y accepted (verdict unsound 0)) (sym (not-true r n) ∙ q) ∙ checks-pass h t
+
+  pub checks-sound : v .refusal ≡ 0 → {r t : Bool} → r ≡ t → not r ≡ false → accepted ≡ both t
+  checks-sound h {r} {t} q n = ap (λ (y : Bool). cond y accepted (verdict unsound 0)) (sym (not-false r n) ∙ q) ∙ checks-pass h t
+
 -- ---- every template is inside the program
 
 templates-inside : (k : ℕ) (made : Produced) (xs : List Itb) → TemplatesOk k made xs → (i : ℕ) → i < length xs → getD xs i nothing .address .0 < k
@@ -65,6 +85,3 @@ inside-within σ s i l =
 -- of a scanned program there are at most 1,024
 pub few-instructions : (p : List ℕ) → Program.scanOf p ≡ accepted → length p / 8 ≤ 1024
 few-instructions p a = let few = program-whole p a .few in omega (arith, few)
-
-pub fit-inside : (p : List ℕ) (s : State) → Program.scanOf p ≡ accepted → Fit p s → Inside (machOf s)
-fit-inside p s a f = (length p / 8, few-instructions p a, f .sound)

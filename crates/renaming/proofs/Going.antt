@@ -1,7 +1,7 @@
 -- The entries: a refused one hands back what it was lent, and the loop of a run is the run.
 use mathlib.Core.Path.{_≡_, refl, sym, ap, ap₂, subst, _∙_}
 use mathlib.Core.Logic.{_≢_}
-use Prim.Native.Nat.{ℕ, suc, _+_, _*_, _-_, _/_, _%_, _<_, _≤_}
+use Prim.Native.Nat.{ℕ, suc, _+_, _*_, _/_, _%_, _<_, _≤_}
 use native.Mathlib.Numerals.{add-one}
 use native.Mathlib.Omega.{arith}
 use mathlib.Core.List.{List, [], _∷_}
@@ -15,7 +15,6 @@ use Rattle.records.proofs.Leading.{drop-some}
 use Rattle.value.specs.declared.Value.{Value}
 use Rattle.isa.specs.declared.Tag.{Tag}
 use Rattle.isa.specs.Program.{program}
-use Rattle.isa.specs.Program as Program
 use Rattle.isa.proofs.Programs.{length-program}
 use Rattle.isa.proofs.Formed.{program-formed}
 use Rattle.cells.specs.Cells.{cells, image, Formed}
@@ -23,9 +22,8 @@ use Rattle.kernel.proofs.Checking.{refuses, works}
 use Rattle.templates.specs.declared.Counter.{Counter}
 use Rattle.templates.specs.declared.State.{State}
 use Rattle.templates.specs.Machine.{Mach}
-use Rattle.templates.specs.Layout.{machOf, stateOf, Laid}
+use Rattle.templates.specs.Layout.{machOf, Laid}
 use Rattle.templates.proofs.Places.{stateOf-machOf}
-use Rattle.sound.specs.Sound.{soundMach}
 use Rattle.sound.proofs.Soundness.{Sound}
 use Rattle.sound.proofs.Decides.{sound-said}
 use Rattle.rows.specs.Rows.{Row}
@@ -38,15 +36,14 @@ use Rattle.rules.specs.Rules.{Step, refused, apply, issue}
 use Rattle.rules.specs.Schedule.{commandOf, obey}
 use Rattle.rules.specs.Run.{End, commands, counted, proceed, runFrom, run}
 use Rattle.rules.proofs.Keeping.{StaysSound, obey-keeps-sound}
-use Rattle.rules.proofs.Numbered.{Numbered, obey-numbered}
+use Rattle.rules.proofs.Numbered.{obey-numbered}
 use Rattle.entry.specs.Entry.{entered}
 use Rattle.renaming.specs.declared.Now.{Now}
 use Rattle.renaming.specs.declared.Went.{Went}
 use Rattle.renaming.specs.declared.Ran.{Ran}
-use Rattle.renaming.specs.declared.Stepped.{Stepped}
 use Rattle.renaming.specs.Answers.{answerOf, memoryOf}
 use Rattle.renaming.specs.Entries.{enteredWith, command, once, stepAnswer, stepped, steppedMemory, Steps, enteredRun, runs, ended, ran, ranMemory, Runs, Goes}
-use Rattle.renaming.specs.Working.{shows, Within, Inside, Does, DoesBoth, Acts, Ready, RunsTo}
+use Rattle.renaming.specs.Working.{shows, Within, DoesBoth, Acts, Ready, RunsTo}
 use Rattle.renaming.proofs.Steps.{now, no-step, came-accepted, came-refused}
 use Rattle.renaming.proofs.Fitting.{inside-within, few-instructions}
 
@@ -215,17 +212,18 @@ module _ {p : List ℕ} {e : End} {b₀ records : List ℕ} {c : Counter} {n : �
           formed = λ f. o .formed (l .formed f);
         })
 
-    pub run-stops : r .refusal ≢ 0 → RunsTo e b₀ (went r i k) ts′ rf′ b′
-    run-stops z =
+    pub run-stops : r .refusal ≢ 0 → {w : Went} → w ≡ went r i k → RunsTo e b₀ w ts′ rf′ b′
+    run-stops z {w} q =
         let s = came-refused (obey (program p) d (shows c n ts (regsOf rf)) (cells b)) (o .does) z in
-        record {
+        subst (λ (v : Went). RunsTo e b₀ v ts′ rf′ b′) (sym q)
+        (record {
           end =
               ap₂ (λ (σ : Mach) (m : List Value). record { accepted = i; issued = k; refusal = r .refusal; machine = σ; memory = m }) (s .1) (s .2)
               ∙ sym (step ∙ ap (proceed _ _) (s .0)) ∙ l .rest;
           table = o .does .table;
           file = o .file;
           formed = λ f. o .formed (l .formed f);
-        }
+        })
 
   pub run-ends : length records / 4 ≤ i → RunsTo e b₀ (record { counter = c; count = n; accepted = i; issued = k; refusal = 0 }) ts rf b
   unfolding runFrom

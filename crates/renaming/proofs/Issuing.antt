@@ -1,18 +1,16 @@
--- Issue on the working table: the instruction's row is the new template's code, and the destination's number its tag's.
+-- Issue on the working table: the instruction's template is added, and the destination holds its tag.
 use mathlib.Core.Path.{_≡_, refl, sym, ap, ap₂, subst, _∙_}
-use Prim.Native.Nat.{ℕ, zero, suc, _+_, _≤_, _<_}
+use Prim.Native.Nat.{ℕ, _+_, _≤_, _<_}
 use native.Mathlib.Omega.{arith}
-use mathlib.Core.Bool.{Bool, true, false}
+use mathlib.Core.Bool.{true, false}
 use mathlib.Core.List.{List, [], _∷_, _++_}
-use lib.Dec.{eqb, leb}
-use lib.ListN.{length, set, getElem?, length-set}
+use lib.ListN.{length, getElem?, length-set}
 use borrow.Author.Tests.{le-leb, lt-leb}
 use Rattle.records.specs.Refusal.{stalled, full, badTag}
 use Rattle.records.specs.Try.{Try, got, fails}
 use Rattle.value.specs.declared.Value.{Value}
 use Rattle.isa.specs.declared.InstrAddr.{InstrAddr}
 use Rattle.isa.specs.declared.Instr.{Instr}
-use Rattle.isa.specs.declared.Instr.the-variants as Instr
 use Rattle.isa.specs.declared.Reg.{Reg}
 use Rattle.isa.specs.declared.Tag.{Tag}
 use Rattle.isa.specs.Program.{present}
@@ -20,51 +18,24 @@ use Rattle.templates.specs.declared.Counter.{Counter}
 use Rattle.templates.specs.declared.Counter.the-variants.{At, Stall}
 use Rattle.templates.specs.declared.Operand.the-variants.{Waits}
 use Rattle.templates.specs.declared.Register.{Register}
-use Rattle.templates.specs.Templates.{noTag, contents, put}
+use Rattle.templates.specs.declared.Work.{Work}
+use Rattle.templates.specs.Templates.{put}
 use Rattle.templates.specs.Machine.{Itb, ITB, Mach, mach, room}
-use Rattle.templates.specs.Layout.{places}
-use Rattle.rows.specs.Rows.{Row, noWord, number, headOf, rowOf, numberIn, rowFor}
+use Rattle.templates.specs.Layout.{places, template}
+use Rattle.rows.specs.Rows.{Row}
 use Rattle.rows.specs.Shown.{heldOf, regsOf, Table, File}
-use Rattle.rows.specs.Answers.{Small, SmallInstr, SmallTag, Holds, Adds}
-use Rattle.rows.proofs.Showing.{Shows, shown, tabled, more, held-long, number-here, contents-small, held-listed, held-filed}
-use Rattle.rules.specs.Rules.{Step, accepted, refused, tried, tagOk, workOf, renamed, counterAfter, issueAt, issueFrom, issue}
+use Rattle.rows.specs.Answers.{Holds, Puts}
+use Rattle.rows.proofs.Showing.{shown, tabled, shows-more, held-long, held-listed, held-filed}
+use Rattle.rows.proofs.Showing.{shows as shows-table}
+use Rattle.rules.specs.Rules.{Step, accepted, tried, tagOk, workOf, renamed, counterAfter, issueAt, issueFrom, issue}
 use Rattle.renaming.specs.declared.Now.{Now}
-use Rattle.renaming.specs.Working.{shows, Does, Renames, DoesBoth}
+use Rattle.renaming.specs.Working.{shows, Renames, DoesBoth}
 use Rattle.renaming.proofs.Steps.{now, no-step, a-step, does-as}
-
--- ---- the row
-
-module _ {rf : List ℕ} (f : File rf) (ia : InstrAddr) (t : Tag) where
-  abbrev new : Instr → Itb
-  new i = ITB ia (workOf (regsOf rf) ia t i)
-
-  both : (h : ℕ) (r1 r2 : Reg) → (h ∷ numberIn rf r1 ∷ numberIn rf r2 ∷ []) ≡ (h ∷ number (contents (regsOf rf) r1) ∷ number (contents (regsOf rf) r2) ∷ [])
-  both h r1 r2 = ap₂ (λ (a b : ℕ). h ∷ a ∷ b ∷ []) (number-here f r1) (number-here f r2)
-
-  row-for : (i : Instr) → rowFor rf ia t i ≡ rowOf (new i)
-  row-for (Instr.Loadc r k) = refl
-  row-for (Instr.Loadpc r) = refl
-  row-for (Instr.Op r n r1 r2) = both (headOf 1 n t ia) r1 r2
-  row-for (Instr.Jz r1 r2) = both (headOf 2 0 noTag ia) r1 r2
-  row-for (Instr.Load r r1) = ap (λ (a : ℕ). headOf 3 0 t ia ∷ a ∷ noWord ∷ []) (number-here f r1)
-  row-for (Instr.Store r1 r2) = both (headOf 4 0 noTag ia) r1 r2
-
-  new-small : SmallTag t → ia .0 < 4294967296 → (i : Instr) → SmallInstr i → Small (new i)
-  new-small s a (Instr.Loadc r k) h = (a, (s, h))
-  new-small s a (Instr.Loadpc r) h = (a, (s, a))
-  new-small s a (Instr.Op r n r1 r2) h = (a, (s, h, contents-small f r1, contents-small f r2))
-  new-small s a (Instr.Jz r1 r2) h = (a, (contents-small f r1, contents-small f r2))
-  new-small s a (Instr.Load r r1) h = (a, (s, contents-small f r1))
-  new-small s a (Instr.Store r1 r2) h = (a, (contents-small f r1, contents-small f r2))
 
 -- ---- the destination
 
-module _ {rf : List ℕ} (f : File rf) (t : Tag) where
-  pub renames-none : {i : Instr} → renamed (regsOf rf) t i ≡ regsOf rf → Renames t i rf rf
-  renames-none e = record { shown = sym e; file = f }
-
-  pub renames : (i : Instr) (r : Reg) → renamed (regsOf rf) t i ≡ put (regsOf rf) r (Waits t) → {rf′ : List ℕ} → Holds r t rf rf′ → Renames t i rf rf′
-  renames i r e h = record { shown = held-listed f h ∙ sym e; file = held-filed f h }
+pub renames : {rf : List ℕ} → File rf → (t : Tag) (i : Instr) (r : Reg) → renamed (regsOf rf) t i ≡ put (regsOf rf) r (Waits t) → {rf′ : List ℕ} → Holds r (Waits t) rf rf′ → Renames t i rf rf′
+renames f t i r e h = record { shown = held-listed f h ∙ sym e; file = held-filed f h }
 
 -- ---- issue at an address
 
@@ -79,21 +50,20 @@ module _ {n : ℕ} {ts : List Row} (b : Table n ts) {rf : List ℕ} (f : File rf
     pub bad-tag : tagOk (heldOf n ts) t i ≡ false → DoesBoth there c n ts rf (now c n badTag) ts rf
     bad-tag e = record { does = λ m. no-step b badTag (rw (lt-leb room (length (heldOf n ts)) (omega (arith, held-long b)), e) refl); file = f }
 
-    pub issues : tagOk (heldOf n ts) t i ≡ true → {ts′ : List Row} → Adds n rf ia t i ts ts′ → {rf′ : List ℕ} → Renames t i rf rf′
-        → {c′ : Counter} → c′ ≡ counterAfter ia i → DoesBoth there c n ts rf (now c′ (n + 1) 0) ts′ rf′
-    issues e {ts′} a {rf′} q {c′} k =
-        let x = new f ia t i in
-        let g = more b h x (new-small f ia t (a .tag) (a .address) i (a .instruction)) in
-        let same : ts′ ≡ set ts n (rowOf x) = a .rows ∙ ap (set ts n) (row-for f ia t i) in
-        subst (λ (z : List Row). DoesBoth there c n ts rf (now c′ (n + 1) 0) z rf′) (sym same)
-        (record {
+    pub issues : tagOk (heldOf n ts) t i ≡ true → {w : Work} → w ≡ workOf (regsOf rf) ia t i → {ts′ : List Row} → Puts n (template (ITB ia w)) ts ts′
+        → {rf′ : List ℕ} → Renames t i rf rf′ → {c′ : Counter} → c′ ≡ counterAfter ia i → DoesBoth there c n ts rf (now c′ (n + 1) 0) ts′ rf′
+    issues e {w} g {ts′} u {rf′} q {c′} k =
+        let x = ITB ia w in
+        let s = shows-more (shows-table b) (omega (arith, b .long, h)) u in
+        let long : length ts′ ≡ places = ap length (u .rows) ∙ length-set ts n _ ∙ b .long in
+        record {
           does =
-              λ m. a-step (tabled g (length-set ts n (rowOf x) ∙ b .long) (omega (arith, h)))
-              (rw (lt-leb room (length (heldOf n ts)) (omega (arith, held-long b)), e)
+              λ m. a-step (tabled s long (omega (arith, h)))
+              (rw (lt-leb room (length (heldOf n ts)) (omega (arith, held-long b)), e, ← g)
               (ap₂ (λ (y : Counter) (rs : List Register). accepted (mach y rs (heldOf n ts ++ x ∷ [])) m) (sym k) (sym (q .shown))
-              ∙ ap (λ (xs : List Itb). accepted (mach c′ (regsOf rf′) xs) m) (sym (shown g))));
+              ∙ ap (λ (xs : List Itb). accepted (mach c′ (regsOf rf′) xs) m) (sym (shown s))));
           file = q .file;
-        })
+        }
 
 -- ---- at the counter
 

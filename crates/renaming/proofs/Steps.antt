@@ -1,21 +1,21 @@
 -- What a rule comes to on the working table, by what it answered there.
 use mathlib.Core.Path.{_≡_, refl, sym, ap, ap₂, subst, _∙_}
 use mathlib.Core.Logic.{_≢_}
-use Prim.Native.Nat.{ℕ, zero, suc, _+_, _-_, _≤_, _<_}
+use Prim.Native.Nat.{ℕ, suc, _-_, _≤_, _<_}
 use native.Mathlib.Omega.{arith}
 use mathlib.Core.Bool.{Bool, true, false, cond, _||_}
-use mathlib.Core.List.{List, [], _∷_, _++_}
+use mathlib.Core.List.{List, _∷_, _++_}
 use lib.Dec.{eqb}
 use lib.ListN.{length, getD, take, drop}
 use lib.Seq.{take-suc, append-snoc, split-at}
-use borrow.Author.Tests.{eq-eqb, ne-eqb, eqb-true, lt-ltb, le-ltb}
+use borrow.Author.Tests.{eq-eqb, ne-eqb, eqb-true, le-ltb}
 use Rattle.records.specs.Refusal.{noTemplate, otherKind, needsTag, notHeld, stillHeld, earlierMemory, otherWay}
 use Rattle.records.specs.Try.{Try, got, fails}
 use Rattle.value.specs.declared.Value.{Value}
 use Rattle.value.specs.declared.Value.the-variants.{Undefined, Word}
 use Rattle.isa.specs.declared.InstrAddr.{InstrAddr}
 use Rattle.isa.specs.declared.Tag.{Tag}
-use Rattle.cells.specs.Cells.{cells, answer, Formed}
+use Rattle.cells.specs.Cells.{cells, answer}
 use Rattle.cells.specs.declared.Loaded.{Loaded}
 use Rattle.cells.specs.declared.Loaded.the-variants as Loaded
 use Rattle.kernel.specs.declared.Reached.{Reached}
@@ -29,13 +29,12 @@ use Rattle.templates.specs.declared.Operand.{Operand}
 use Rattle.templates.specs.declared.Operand.the-variants.{Known, Waits}
 use Rattle.templates.specs.declared.Register.{Register}
 use Rattle.templates.specs.declared.Work.the-variants.{Done}
-use Rattle.templates.specs.Templates.{fillRegs}
 use Rattle.templates.specs.Machine.{Itb, ITB, nothing, fillAll, Mach, mach}
-use Rattle.templates.specs.Layout.{places}
-use Rattle.rows.specs.Rows.{Row, head, kindAt, rowAt, itbOf, tagAt, addressAt, valueAt, firstAt, secondAt, memoryBefore, heldBehind, inRegister, filledBehind, without}
+use Rattle.rows.specs.Rows.{Row, aValue, aJz, aStore, kindAt, rowAt, itbOf, tagAt, addressAt, valueAt, firstAt, secondAt, memoryBefore, heldBehind, inRegister, filledBehind, without}
 use Rattle.rows.specs.Shown.{heldOf, regsOf, Table, File}
 use Rattle.rows.specs.Answers.{Finishes, Fills}
 use Rattle.rows.proofs.Showing.{Shows, shown, tabled, here, held-long, fills, fills-long, leaves, leaves-long, finishes, finishes-long, filled-listed, filled-filed}
+use Rattle.rows.proofs.Works.{work-value}
 use Rattle.rules.specs.declared.Rule.{Rule}
 use Rattle.rules.specs.declared.Rule.the-variants as Rule
 use Rattle.rules.specs.Rules.{Step, accepted, refused, tried, apply}
@@ -124,11 +123,11 @@ module _ {A : Type 0} where
   either-fails true T U f g = f
   either-fails false T U f g = g
 
-got-kind : {A : Type 0} (k : ℕ) (T : Try A) (x : A) → ofKind 0 k T ≡ got x → k ≡ 0
-got-kind k T x e = go (eqb k 0) refl e
+got-kind : {A : Type 0} (k : ℕ) (T : Try A) (x : A) → ofKind aValue k T ≡ got x → k ≡ aValue
+got-kind k T x e = go (eqb k aValue) refl e
   where
-    go : (b : Bool) → eqb k 0 ≡ b → cond b T (fails otherKind) ≡ got x → k ≡ 0
-    go true q e = eqb-true k 0 q
+    go : (b : Bool) → eqb k aValue ≡ b → cond b T (fails otherKind) ≡ got x → k ≡ aValue
+    go true q e = eqb-true k aValue q
     go false q e = let z : otherKind ≡ 0 = ap number e in absurd (omega (arith, z))
 
 module _ {n p : ℕ} {ts : List Row} (s : Stands n p ts) (c : Counter) where
@@ -136,10 +135,10 @@ module _ {n p : ℕ} {ts : List Row} (s : Stands n p ts) (c : Counter) where
   held = heldOf n ts
 
   -- the one at the place, if it is a value template
-  kind-done : kindAt ts p ≡ 0 → itbOf (rowAt ts p) .work ≡ Done (tagAt ts p) (valueAt ts p)
-  kind-done e = rw e refl
+  kind-done : kindAt ts p ≡ aValue → itbOf (rowAt ts p) .work ≡ Done (tagAt ts p) (valueAt ts p)
+  kind-done e = work-value ts p e
 
-  done-here : kindAt ts p ≡ 0 → getD held p nothing ≡ ITB (addressAt ts p) (Done (tagAt ts p) (valueAt ts p))
+  done-here : kindAt ts p ≡ aValue → getD held p nothing ≡ ITB (addressAt ts p) (Done (tagAt ts p) (valueAt ts p))
   done-here e = sym (here (s .table) (s .place)) ∙ ap (ITB (addressAt ts p)) (kind-done e)
 
   inside : p < length held
@@ -156,7 +155,7 @@ module _ {n p : ℕ} {ts : List Row} (s : Stands n p ts) (c : Counter) where
         (forward-reads (s .table) (s .place) c rs m ∙ ap (tried (λ (_ : Unit {0}). forwarded (s .table) (s .place) c rs m)) (tried-no (forwarding n p ts) (λ q. h (e ∙ q))) ∙ ap refused (sym e))
 
     forward-got : why ≡ 0 → (x : Unit {0}) × (forwarding n p ts ≡ got x)
-    forward-got h = tried-zero (forwarding n p ts) (sym e ∙ h) (of-kind-fails 0 (kindAt ts p) _ (either-fails (heldBehind n p ts) (got tt) (fails notHeld) tt (λ q. omega (arith, q))))
+    forward-got h = tried-zero (forwarding n p ts) (sym e ∙ h) (of-kind-fails aValue (kindAt ts p) _ (either-fails (heldBehind n p ts) (got tt) (fails notHeld) tt (λ q. omega (arith, q))))
 
     pub forward-done : why ≡ 0 → {ts′ : List Row} → ts′ ≡ filledBehind n p ts → DoesRows forwards c n ts (now c n 0) ts′
     forward-done h {ts′} q =
@@ -182,7 +181,7 @@ module _ {n p : ℕ} {ts : List Row} (s : Stands n p ts) (c : Counter) where
         }
 
     commit-got : why ≡ 0 → (x : Unit {0}) × (committing p ts rf ≡ got x)
-    commit-got h = tried-zero (committing p ts rf) (sym e ∙ h) (of-kind-fails 0 (kindAt ts p) _ (either-fails (inRegister (tagAt ts p) rf) (got tt) (fails notHeld) tt (λ q. omega (arith, q))))
+    commit-got h = tried-zero (committing p ts rf) (sym e ∙ h) (of-kind-fails aValue (kindAt ts p) _ (either-fails (inRegister (tagAt ts p) rf) (got tt) (fails notHeld) tt (λ q. omega (arith, q))))
 
     pub commit-done : why ≡ 0 → {rf′ : List ℕ} → Fills (tagAt ts p) (valueAt ts p) rf rf′ → DoesBoth (apply Rule.Commit p) c n ts rf (now c n 0) ts rf′
     commit-done h {rf′} q =
@@ -202,7 +201,7 @@ module _ {n p : ℕ} {ts : List Row} (s : Stands n p ts) (c : Counter) where
 
 storing-fails : (m : List Value) (p : ℕ) (ts : List Row) → Fails (storing m p ts)
 storing-fails m p ts =
-    of-kind-fails 4 (kindAt ts p) _ (either-fails (memoryBefore p ts) (fails earlierMemory) _ (λ q. omega (arith, q)) (go (firstAt ts p) (secondAt ts p)))
+    of-kind-fails aStore (kindAt ts p) _ (either-fails (memoryBefore p ts) (fails earlierMemory) _ (λ q. omega (arith, q)) (go (firstAt ts p) (secondAt ts p)))
   where
     go : (x y : Operand) → Fails (needing (λ u. needing (λ v. writeAt m u v) y) x)
     go (Known u) (Known v) = write-fails m u v
@@ -262,7 +261,7 @@ module _ {c : Counter} {n p : ℕ} {ts : List Row} {rf b : List ℕ} {r : Now} {
 
   pub acts-retire : {why : ℕ} → why ≡ number (retiring n p ts rf) → DoesRows (λ rs m. removing c n p ts rs m why) c n ts r ts′ → Acts (apply Rule.Retire p) c n ts rf b r ts′ rf b
   acts-retire {why} e d =
-      let ok = of-kind-fails 0 (kindAt ts p) _ (either-fails (inRegister (tagAt ts p) rf || heldBehind n p ts) (fails stillHeld) (got tt) (λ q. omega (arith, q)) tt) in
+      let ok = of-kind-fails aValue (kindAt ts p) _ (either-fails (inRegister (tagAt ts p) rf || heldBehind n p ts) (fails stillHeld) (got tt) (λ q. omega (arith, q)) tt) in
       record {
         does =
             does-as (retire-reads (s .table) (s .place) c (regsOf rf) (cells b) f refl ∙ by-number _ (retiring n p ts rf) ok ∙ ap (removing c n p ts (regsOf rf) (cells b)) (sym e))
@@ -328,7 +327,7 @@ within-here {n} {p} {ts} s w =
 
 module _ (p : ℕ) (ts : List Row) {why : ℕ} (e : why ≡ number (falling p ts)) where
   falling-fails : Fails (falling p ts)
-  falling-fails = of-kind-fails 2 (kindAt ts p) _ (go (firstAt ts p))
+  falling-fails = of-kind-fails aJz (kindAt ts p) _ (go (firstAt ts p))
     where
       no : Try (Unit {0})
       no = fails otherWay
@@ -353,32 +352,32 @@ module _ (p : ℕ) (ts : List Row) {why : ℕ} (e : why ≡ number (falling p ts
 -- ---- a store
 
 module _ (m : List Value) (p : ℕ) (ts : List Row) where
-  store-kind : kindAt ts p ≢ 4 → storing m p ts ≡ fails otherKind
-  store-kind h = rw (ne-eqb (kindAt ts p) 4 h) refl
+  store-kind : kindAt ts p ≢ aStore → storing m p ts ≡ fails otherKind
+  store-kind h = rw (ne-eqb (kindAt ts p) aStore h) refl
 
-  module _ (k : kindAt ts p ≡ 4) where
+  module _ (k : kindAt ts p ≡ aStore) where
     store-behind : memoryBefore p ts ≡ true → storing m p ts ≡ fails earlierMemory
-    store-behind h = rw (eq-eqb (kindAt ts p) 4 k, h) refl
+    store-behind h = rw (eq-eqb (kindAt ts p) aStore k, h) refl
 
     module _ (h : memoryBefore p ts ≡ false) where
       store-waits : (t : Tag) → firstAt ts p ≡ Waits t → storing m p ts ≡ fails needsTag
-      store-waits t e = rw (eq-eqb (kindAt ts p) 4 k, h, e) refl
+      store-waits t e = rw (eq-eqb (kindAt ts p) aStore k, h, e) refl
 
       module _ (u : Value) (e : firstAt ts p ≡ Known u) where
         store-waits-two : (t : Tag) → secondAt ts p ≡ Waits t → storing m p ts ≡ fails needsTag
-        store-waits-two t g = rw (eq-eqb (kindAt ts p) 4 k, h, e, g) refl
+        store-waits-two t g = rw (eq-eqb (kindAt ts p) aStore k, h, e, g) refl
 
         store-both : (v : Value) → secondAt ts p ≡ Known v → storing m p ts ≡ writeAt m u v
-        store-both v g = rw (eq-eqb (kindAt ts p) 4 k, h, e, g) refl
+        store-both v g = rw (eq-eqb (kindAt ts p) aStore k, h, e, g) refl
 
 module _ {p : ℕ} {ts : List Row} {b : List ℕ} where
   stays : {why : ℕ} → storing (cells b) p ts ≡ fails why → Stores p ts b why b
   stays e = record { answer = sym (ap number e); holds = sym (ap (orKept (cells b)) e); formed = λ f. f }
 
-  pub stores-kind : kindAt ts p ≢ 4 → Stores p ts b otherKind b
+  pub stores-kind : kindAt ts p ≢ aStore → Stores p ts b otherKind b
   stores-kind h = stays (store-kind (cells b) p ts h)
 
-  module _ (k : kindAt ts p ≡ 4) where
+  module _ (k : kindAt ts p ≡ aStore) where
     pub stores-behind : memoryBefore p ts ≡ true → Stores p ts b earlierMemory b
     stores-behind h = stays (store-behind (cells b) p ts k h)
 

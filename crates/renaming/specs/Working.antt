@@ -5,6 +5,8 @@ use mathlib.Core.Bool.{true, cond}
 use mathlib.Core.List.{List, _∷_, _++_}
 use lib.Dec.{eqb}
 use lib.ListN.{length, getD, take, drop}
+use Rattle.records.specs.declared.Verdict.{Verdict}
+use Rattle.records.specs.Refusal.{unsound}
 use Rattle.records.specs.Scan as Scan
 use Rattle.records.specs.Try.{Try, got, fails}
 use Rattle.value.specs.declared.Value.{Value}
@@ -17,19 +19,20 @@ use Rattle.cells.specs.declared.Loaded.the-variants as Loaded
 use Rattle.cells.specs.Cells.{cells, Formed}
 use Rattle.kernel.specs.declared.Reached.{Reached}
 use Rattle.kernel.specs.declared.Reached.the-variants as Reached
+use Rattle.kernel.specs.Checks.{first, checked}
 use Rattle.kernel.specs.Kernel.{next, number, orKept}
 use Rattle.templates.specs.declared.Counter.{Counter}
 use Rattle.templates.specs.declared.Counter.the-variants.{At}
 use Rattle.templates.specs.declared.Register.{Register}
-use Rattle.templates.specs.declared.Work.{Work}
 use Rattle.templates.specs.declared.Work.the-variants.{Done}
 use Rattle.templates.specs.Machine.{Itb, ITB, nothing, Mach, mach}
 use Rattle.sound.specs.Sound.{soundMach}
+use Rattle.sound.specs.Search.{soundOn}
 use Rattle.rows.specs.Rows.{Row, tagAt, addressAt}
 use Rattle.rows.specs.Shown.{heldOf, regsOf, Table, File}
 use Rattle.rules.specs.Rules.{Step, accepted, refused, tried, renamed}
 use Rattle.rules.specs.Run.{End}
-use Rattle.rules.specs.Drain.{refusal, refusalAt, asks, Drained}
+use Rattle.rules.specs.Drain.{refusal, blocking, Drained}
 use Rattle.judge.specs.Reading.{storing, falling}
 use Rattle.renaming.specs.declared.Now.{Now}
 use Rattle.renaming.specs.declared.Went.{Went}
@@ -153,6 +156,11 @@ pub record DrainsTo (d : Drained) (b : List ℕ) (r : Emptied) (ts′ : List Row
   pub file : File rf′
   pub formed : Formed b → Formed b′
 
--- ---- what blocks the oldest template, of work w: its rule's refusal, 0 if there is none
-abbrev pub BlockedBy : ℕ → List Row → List ℕ → Work → List Value → ℕ → Type 0
-BlockedBy n ts rf w m r = (c : Counter) → r ≡ cond (eqb n 0) 0 (refusalAt (asks w) 0 (shows c n ts (regsOf rf)) m)
+-- what blocks the oldest template
+abbrev pub BlockedBy : ℕ → List Row → List ℕ → List Value → ℕ → Type 0
+BlockedBy n ts rf m r = (c : Counter) → r ≡ blocking (shows c n ts (regsOf rf)) m (heldOf n ts)
+
+-- ---- refusals 1 to 4, of the working table
+
+abbrev pub enteredOn : List ℕ → List ℕ → Counter → ℕ → List Row → List ℕ → Verdict
+enteredOn p b c n ts rf = first (checked p b) (cond (soundOn (length p / 8) c n ts rf) Scan.accepted (Scan.verdict unsound 0))

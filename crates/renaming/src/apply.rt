@@ -62,7 +62,7 @@ fn finish(ts: &mut [[u64; 3]], c: Counter, n: usize, p: usize, r: Loaded) -> Now
 {
     match r {
         Loaded::Is(v) => {
-            rows::finish(ts, p, v);
+            table::finish(ts, p, v);
             Now {
                 counter: c,
                 count: n,
@@ -89,7 +89,7 @@ fn remove(ts: &mut [[u64; 3]], c: Counter, n: usize, p: usize, why: u8) -> Now
             refusal: why,
         };
     }
-    rows::remove(ts, n, p);
+    table::remove(ts, n, p);
     Now {
         counter: c,
         count: n - 1,
@@ -104,7 +104,7 @@ fn go_to(ts: &mut [[u64; 3]], c: Counter, n: usize, p: usize, r: Reached) -> Now
 {
     match r {
         Reached::At(ia) => {
-            rows::remove(ts, n, p);
+            table::remove(ts, n, p);
             Now {
                 counter: Counter::At(ia),
                 count: n - 1,

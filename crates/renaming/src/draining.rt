@@ -94,10 +94,9 @@ pub(crate) fn empty(
         }
         let rule = due(&ts[..], &rf[..], held, p);
         let next = apply::apply(ts, rf, at, held, rule, p, memory);
-        let why = next.refusal;
         at = next.counter;
         held = next.count;
-        if why == 0 {
+        if next.refusal == 0 {
             rules += 1;
             p = 0;
         } else {

@@ -4,18 +4,30 @@ ghost use Prim.Native.Nat.{_<_};
 ghost use Rattle.records.specs.Scan.{accepted};
 ghost use Rattle.isa.specs.Program.{scanOf};
 ghost use Rattle.isa.specs.Program.{program as instructions};
-ghost use Rattle.rows.specs.Shown.{heldOf, Table, File};
-ghost use Rattle.rules.specs.Rules.{isFresh, tagSuits, counterAfter, issueAt, issue};
+ghost use Rattle.templates.specs.Templates.{contents};
+ghost use Rattle.rows.specs.Shown.{heldOf, regsOf, Table, File};
+ghost use Rattle.rules.specs.Rules.{isFresh, tagSuits, workOf, counterAfter, issueAt, issue};
 ghost use Rattle.renaming.specs.Working.{Renames, DoesBoth};
 use crate::Now;
 use isa::Instr;
 use isa::InstrAddr;
 use isa::Reading;
+use isa::Reg;
 use isa::Tag;
 use records::refusal;
 use templates::Counter;
 use templates::LAST_TAG;
+use templates::Operand;
 use templates::ROOM;
+use templates::Template;
+use templates::Work;
+use value::Value;
+
+fn contents(rf: &[u64], r: Reg) -> Operand
+    ensures { λ o. ⌜ o ≡ contents (regsOf (now (rf .entry))) r ⌝ }
+{
+    rows::contents(rf, r.0 as usize)
+}
 
 fn counter_after(ia: InstrAddr, i: Instr) -> Counter
     requires { ⌜ ia .0 < 1024 ⌝ }
@@ -54,17 +66,31 @@ fn tag_suits(fresh: bool, t: Tag, i: Instr) -> bool
     }
 }
 
+// The new template's work: the operands' present contents.
+fn work_for(rf: &[u64], ia: InstrAddr, t: Tag, i: Instr) -> Work
+    ensures { λ w. ⌜ w ≡ workOf (regsOf (now (rf .entry))) ia t i ⌝ }
+{
+    match i {
+        Instr::Loadc(_, k) => Work::Done(t, Value::Word(k)),
+        Instr::Loadpc(_) => Work::Done(t, Value::Word(ia.0)),
+        Instr::Op(_, n, r1, r2) => Work::Op(t, n, contents(rf, r1), contents(rf, r2)),
+        Instr::Jz(r1, r2) => Work::Jz(contents(rf, r1), contents(rf, r2)),
+        Instr::Load(_, r1) => Work::Load(t, contents(rf, r1)),
+        Instr::Store(r1, r2) => Work::Store(contents(rf, r1), contents(rf, r2)),
+    }
+}
+
 // The destination holds the tag.
 fn rename(rf: &mut [u64], t: Tag, i: Instr)
     requires { ⌜ File (now rf) ⌝ }
     ensures { λ _. ⌜ Renames t i (now (rf .entry)) (now (rf .exit)) ⌝ }
 {
     match i {
-        Instr::Loadc(r, _) => rows::hold(rf, r, t),
-        Instr::Loadpc(r) => rows::hold(rf, r, t),
-        Instr::Op(r, _, _, _) => rows::hold(rf, r, t),
+        Instr::Loadc(r, _) => rows::hold(rf, r, Operand::Waits(t)),
+        Instr::Loadpc(r) => rows::hold(rf, r, Operand::Waits(t)),
+        Instr::Op(r, _, _, _) => rows::hold(rf, r, Operand::Waits(t)),
         Instr::Jz(_, _) => {}
-        Instr::Load(r, _) => rows::hold(rf, r, t),
+        Instr::Load(r, _) => rows::hold(rf, r, Operand::Waits(t)),
         Instr::Store(_, _) => {}
     }
 }
@@ -89,19 +115,22 @@ fn issue_at(
             refusal: refusal::FULL,
         };
     }
-    let fresh = is_fresh(&ts[..], n, t);
-    if !tag_suits(fresh, t, i) {
+    if !tag_suits(is_fresh(&ts[..], n, t), t, i) {
         return Now {
             counter: c,
             count: n,
             refusal: refusal::BAD_TAG,
         };
     }
-    rows::add(ts, n, &rf[..], ia, t, i);
+    let w = work_for(&rf[..], ia, t, i);
+    let x = Template {
+        address: ia,
+        work: w,
+    };
+    rows::put(ts, n, x);
     rename(rf, t, i);
-    let next = counter_after(ia, i);
     Now {
-        counter: next,
+        counter: counter_after(ia, i),
         count: n + 1,
         refusal: 0,
     }

@@ -51,6 +51,19 @@ fn obey(
     }
 }
 
+fn went(now: Now, accepted: usize, issued: usize) -> Went
+    ensures { λ r. ⌜ r ≡ record { counter = now .counter; count = now .count; accepted = accepted; issued = issued; refusal = now .refusal } ⌝ }
+{
+    let c = now.counter;
+    Went {
+        counter: c,
+        count: now.count,
+        accepted: accepted,
+        issued: issued,
+        refusal: now.refusal,
+    }
+}
+
 pub(crate) fn go(
     ts: &mut [[u64; 3]],
     rf: &mut [u64],
@@ -72,17 +85,10 @@ pub(crate) fn go(
         let j = 4 * i;
         let command = schedule::read(records[j], records[j + 1], records[j + 2], records[j + 3]);
         let next = obey(ts, rf, at, held, program, memory, command);
-        let why = next.refusal;
         at = next.counter;
         held = next.count;
-        if why != 0 {
-            return Went {
-                counter: at,
-                count: held,
-                accepted: i,
-                issued: issued,
-                refusal: why,
-            };
+        if next.refusal != 0 {
+            return went(next, i, issued);
         }
         issued = count(command, issued);
         i += 1;

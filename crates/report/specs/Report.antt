@@ -9,10 +9,13 @@ use Rattle.records.specs.declared.Verdict.{Verdict}
 use Rattle.records.specs.Refusal.{badLength}
 use Rattle.records.specs.Records.{isWhole}
 use Rattle.value.specs.declared.Value.{Value}
+use Rattle.isa.specs.declared.InstrAddr.{InstrAddr}
 use Rattle.isa.specs.Program as Program
 use Rattle.cells.specs.Cells as Cells
 use Rattle.cells.specs.Cells.{cells}
 use Rattle.text.specs.Text.{into, numbered}
+use Rattle.templates.specs.declared.Counter.{Counter}
+use Rattle.templates.specs.declared.Register.{Register}
 use Rattle.templates.specs.declared.State.{State}
 use Rattle.templates.specs.Machine.{start}
 use Rattle.templates.specs.Layout.{stateOf}
@@ -71,12 +74,18 @@ abbrev pub afterDrain : List ℕ → List ℕ → List ℕ → List ℕ
 afterDrain p m s = drainedMemory p (theRun p m s .state) (afterRun p m s)
 
 -- blocked, if templates remain
+abbrev pub endOf : ℕ → ℕ → ℕ → InstrAddr → List ℕ
+endOf count rules refusal a = cond (eqb count 0) (drainedText rules) (blockedText a refusal rules)
+
 unfoldable pub endText : Settled → List ℕ
-endText d = cond (eqb (d .state .count) 0) (drainedText (d .rules)) (blockedText (d .address) (d .refusal) (d .rules))
+endText d = endOf (d .state .count) (d .rules) (d .refusal) (d .address)
 
 -- the counter, then registers and cells, ascending
+abbrev pub contentsOf : Counter → List Register → List Value → List ℕ
+contentsOf c rs m = counterText c ++ (numbered registerText 0 rs ++ numbered cellText 0 m)
+
 unfoldable pub contentsText : State → List Value → List ℕ
-contentsText s m = counterText (s .counter) ++ (numbered registerText 0 (s .registers) ++ numbered cellText 0 m)
+contentsText s m = contentsOf (s .counter) (s .registers) m
 
 -- what is said of a run, of the drain and of memory after it
 abbrev pub told : Ran → Settled → List ℕ → List ℕ

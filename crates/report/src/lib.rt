@@ -34,9 +34,12 @@ fn put_run(program: &[u8], memory: &mut [u8], schedule: &[u8], out: &mut [u8]) -
     let state = ran.state;
     let end = renaming::drain(state, program, memory);
     let third = lines::put_ran(out, 0, ran.accepted, ran.refusal, ran.issued);
-    let fourth = putting::put_end(out, third, end);
     let left = end.state;
-    putting::put_contents(out, fourth, left, &memory[..])
+    let address = end.address;
+    let fourth = putting::put_end(out, third, left.count, end.rules, end.refusal, address);
+    let c = left.counter;
+    let rs = left.registers;
+    putting::put_contents(out, fourth, c, rs, &memory[..])
 }
 
 // The report of three files' bytes; memory is then as the drain leaves it.
@@ -72,8 +75,10 @@ pub fn contents(state: State, memory: &[u8], out: &mut [u8]) -> Reported
             written: 0,
         };
     }
+    let c = state.counter;
+    let rs = state.registers;
     Reported {
         refusal: 0,
-        written: putting::put_contents(out, 0, state, memory),
+        written: putting::put_contents(out, 0, c, rs, memory),
     }
 }

@@ -4,22 +4,29 @@ ghost use lib.ListN.{length};
 ghost use Rattle.cells.specs.Cells.{cells};
 ghost use Rattle.text.specs.Text.{numbered};
 ghost use Rattle.lines.specs.Lines.{cellText, Puts};
-ghost use Rattle.report.specs.Report.{endText, contentsText};
+ghost use Rattle.report.specs.Report.{endOf, contentsOf};
 use cells::Loaded;
 use isa::DataAddr;
-use renaming::Settled;
-use templates::State;
+use isa::InstrAddr;
+use isa::REGISTERS;
+use templates::Counter;
+use templates::Register;
 
 // Blocked, if templates remain.
-pub(crate) fn put_end(out: &mut [u8], at: usize, end: Settled) -> usize
-    ensures { λ r. ⌜ Puts (now (out .entry)) at (endText end) 53 r (now (out .exit)) ⌝ }
+pub(crate) fn put_end(
+    out: &mut [u8],
+    at: usize,
+    count: usize,
+    rules: usize,
+    refusal: u8,
+    address: InstrAddr,
+) -> usize
+    ensures { λ r. ⌜ Puts (now (out .entry)) at (endOf count rules refusal address) 53 r (now (out .exit)) ⌝ }
 {
-    let state = end.state;
-    if state.count == 0 {
-        return lines::put_drained(out, at, end.rules);
+    if count == 0 {
+        return lines::put_drained(out, at, rules);
     }
-    let address = end.address;
-    lines::put_blocked(out, at, address, end.refusal, end.rules)
+    lines::put_blocked(out, at, address, refusal, rules)
 }
 
 fn put_cells(out: &mut [u8], at: usize, memory: &[u8]) -> usize
@@ -40,13 +47,17 @@ fn put_cells(out: &mut [u8], at: usize, memory: &[u8]) -> usize
 }
 
 // The counter in at most 14 bytes, then registers and cells that aren't undefined, 23 bytes each at most.
-pub(crate) fn put_contents(out: &mut [u8], at: usize, s: State, memory: &[u8]) -> usize
+pub(crate) fn put_contents(
+    out: &mut [u8],
+    at: usize,
+    c: Counter,
+    rs: [Register; REGISTERS],
+    memory: &[u8],
+) -> usize
     requires { ⌜ length (now memory) ≤ 8192 ⌝ }
-    ensures { λ r. ⌜ Puts (now (out .entry)) at (contentsText s (cells (now (memory .entry)))) 24302 r (now (out .exit)) ⌝ }
+    ensures { λ r. ⌜ Puts (now (out .entry)) at (contentsOf c rs (cells (now (memory .entry)))) 24302 r (now (out .exit)) ⌝ }
 {
-    let c = s.counter;
     let registers = lines::put_counter(out, at, c);
-    let rs = s.registers;
     let cells = lines::put_registers(out, registers, rs);
     put_cells(out, cells, memory)
 }

@@ -1,11 +1,12 @@
 -- What is coded is read back, and what is found and done on a coded template is found and done on the template.
 use mathlib.Core.Path.{_≡_, refl, sym, ap, ap₂, _∙_}
-use Prim.Native.Nat.{ℕ, zero, suc, _+_, _-_, _*_, _/_, _%_, _≤_, _<_}
+use mathlib.Core.Logic.{_≢_}
+use Prim.Native.Nat.{ℕ, _+_, _-_, _/_, _%_, _≤_, _<_}
 use native.Mathlib.Omega.{arith}
-use mathlib.Core.Bool.{Bool, true, false, cond, _||_, or-false}
-use mathlib.Core.List.{List, [], _∷_}
+use mathlib.Core.Bool.{Bool, true, false, cond, not, _||_, or-true, or-false, true≢false}
+use mathlib.Core.List.{[], _∷_}
 use lib.Dec.{eqb, ltb, leb}
-use borrow.Author.Tests.{lt-ltb, le-ltb, le-leb, lt-leb, ltb-true, eq-eqb, ne-eqb, eqb-true, eqb-false}
+use borrow.Author.Tests.{lt-ltb, le-leb, lt-leb, ltb-true, eq-eqb, ne-eqb, eqb-true, eqb-false}
 use Rattle.value.specs.declared.Value.{Value}
 use Rattle.value.specs.declared.Value.the-variants.{Undefined, Word}
 use Rattle.isa.specs.declared.InstrAddr.{InstrAddr}
@@ -15,8 +16,8 @@ use Rattle.templates.specs.declared.Operand.the-variants.{Known, Waits}
 use Rattle.templates.specs.declared.Work.{Work}
 use Rattle.templates.specs.declared.Work.the-variants.{Done, Op, Jz, Load, Store}
 use Rattle.templates.specs.Templates.{noTag, sameTag, waits, holds, makes, isMemory, fill, fillWork}
-use Rattle.templates.specs.Machine.{Itb, ITB, fillItb}
-use Rattle.rows.specs.Rows.{Row, noWord, waiting, valueNumber, number, valueOf, operandOf, headOf, rowBy, rowOf, head, one, two, kindOf, operationOf, tagOf, addressOf, workBy, itbOf, holdsRow, fillNumber, fillRow, finished}
+use Rattle.templates.specs.Machine.{Itb, ITB, nothing, fillItb}
+use Rattle.rows.specs.Rows.{Row, aValue, anOp, aJz, aLoad, aStore, noWord, waiting, valueNumber, number, valueOf, operandOf, headOf, rowBy, rowOf, head, one, two, kindOf, operationOf, tagOf, addressOf, workBy, itbOf, holdsRow, isFilled, fillNumber, fillRow}
 use Rattle.rows.specs.Answers.{SmallTag, SmallValue, SmallOperand, SmallWork, Small}
 
 -- by a test, with what it says
@@ -69,15 +70,15 @@ module _ (kind op : ℕ) (t : Tag) (a : InstrAddr) (hk : kind < 8) (ho : op < 25
 
 work-back : (a : InstrAddr) → a .0 < 4294967296 → (w : Work) → SmallWork w → itbOf (rowBy a w) ≡ ITB a w
 work-back a s (Done t v) r =
-    rw (kind-back 0 0 t a (omega arith) (omega arith) (r .0) s, tag-back 0 0 t a (omega arith) (omega arith) (r .0) s, address-back 0 0 t a (omega arith) (omega arith) (r .0) s, value-back v (r .1)) refl
+    rw (kind-back aValue 0 t a (omega arith) (omega arith) (r .0) s, tag-back aValue 0 t a (omega arith) (omega arith) (r .0) s, address-back aValue 0 t a (omega arith) (omega arith) (r .0) s, value-back v (r .1)) refl
 work-back a s (Op t n x y) r =
-    rw (kind-back 1 n t a (omega arith) (r .1) (r .0) s, tag-back 1 n t a (omega arith) (r .1) (r .0) s, operation-back 1 n t a (omega arith) (r .1) (r .0) s, address-back 1 n t a (omega arith) (r .1) (r .0) s, operand-back x (r .2), operand-back y (r .3)) refl
+    rw (kind-back anOp n t a (omega arith) (r .1) (r .0) s, tag-back anOp n t a (omega arith) (r .1) (r .0) s, operation-back anOp n t a (omega arith) (r .1) (r .0) s, address-back anOp n t a (omega arith) (r .1) (r .0) s, operand-back x (r .2), operand-back y (r .3)) refl
 work-back a s (Jz x y) r =
-    rw (kind-back 2 0 noTag a (omega arith) (omega arith) (omega arith) s, address-back 2 0 noTag a (omega arith) (omega arith) (omega arith) s, operand-back x (r .0), operand-back y (r .1)) refl
+    rw (kind-back aJz 0 noTag a (omega arith) (omega arith) (omega arith) s, address-back aJz 0 noTag a (omega arith) (omega arith) (omega arith) s, operand-back x (r .0), operand-back y (r .1)) refl
 work-back a s (Load t x) r =
-    rw (kind-back 3 0 t a (omega arith) (omega arith) (r .0) s, tag-back 3 0 t a (omega arith) (omega arith) (r .0) s, address-back 3 0 t a (omega arith) (omega arith) (r .0) s, operand-back x (r .1)) refl
+    rw (kind-back aLoad 0 t a (omega arith) (omega arith) (r .0) s, tag-back aLoad 0 t a (omega arith) (omega arith) (r .0) s, address-back aLoad 0 t a (omega arith) (omega arith) (r .0) s, operand-back x (r .1)) refl
 work-back a s (Store x y) r =
-    rw (kind-back 4 0 noTag a (omega arith) (omega arith) (omega arith) s, address-back 4 0 noTag a (omega arith) (omega arith) (omega arith) s, operand-back x (r .0), operand-back y (r .1)) refl
+    rw (kind-back aStore 0 noTag a (omega arith) (omega arith) (omega arith) s, address-back aStore 0 noTag a (omega arith) (omega arith) (omega arith) s, operand-back x (r .0), operand-back y (r .1)) refl
 
 pub row-back : (x : Itb) → Small x → itbOf (rowOf x) ≡ x
 row-back x s = work-back (x .address) (s .0) (x .work) (s .1)
@@ -85,10 +86,10 @@ row-back x s = work-back (x .address) (s .0) (x .work) (s .1)
 -- what is read is small
 work-small : (k n a b : ℕ) → SmallWork (workBy k n a b)
 work-small k n a b =
-    test (eqb k 0) (λ e. rw e (omega arith, value-small a))
-    (λ e. test (eqb k 1) (λ f. rw (e, f) (omega arith, omega arith, operand-small a, operand-small b))
-    (λ f. test (eqb k 2) (λ g. rw (e, f, g) (operand-small a, operand-small b))
-    (λ g. test (eqb k 3) (λ q. rw (e, f, g, q) (omega arith, operand-small a))
+    test (eqb k aValue) (λ e. rw e (omega arith, value-small a))
+    (λ e. test (eqb k anOp) (λ f. rw (e, f) (omega arith, omega arith, operand-small a, operand-small b))
+    (λ f. test (eqb k aJz) (λ g. rw (e, f, g) (operand-small a, operand-small b))
+    (λ g. test (eqb k aLoad) (λ q. rw (e, f, g, q) (omega arith, operand-small a))
     (λ q. rw (e, f, g, q) (operand-small a, operand-small b)))))
 
 pub row-small : (x : Row) → Small (itbOf x)
@@ -140,11 +141,11 @@ module _ (t : Tag) where
     three h a b = h ∷ a ∷ b ∷ []
 
     fill-work : (a : InstrAddr) (w : Work) → SmallWork w → fillRow (waiting t) (valueNumber v) (rowBy a w) ≡ rowBy a (fillWork t v w)
-    fill-work a (Done u x) s = ap₂ (three (headOf 0 0 u a)) (value-stays x (s .1)) none-stays
-    fill-work a (Op u n x y) s = ap₂ (three (headOf 1 n u a)) (fill-number x (s .2)) (fill-number y (s .3))
-    fill-work a (Jz x y) s = ap₂ (three (headOf 2 0 noTag a)) (fill-number x (s .0)) (fill-number y (s .1))
-    fill-work a (Load u x) s = ap₂ (three (headOf 3 0 u a)) (fill-number x (s .1)) none-stays
-    fill-work a (Store x y) s = ap₂ (three (headOf 4 0 noTag a)) (fill-number x (s .0)) (fill-number y (s .1))
+    fill-work a (Done u x) s = ap₂ (three (headOf aValue 0 u a)) (value-stays x (s .1)) none-stays
+    fill-work a (Op u n x y) s = ap₂ (three (headOf anOp n u a)) (fill-number x (s .2)) (fill-number y (s .3))
+    fill-work a (Jz x y) s = ap₂ (three (headOf aJz 0 noTag a)) (fill-number x (s .0)) (fill-number y (s .1))
+    fill-work a (Load u x) s = ap₂ (three (headOf aLoad 0 u a)) (fill-number x (s .1)) none-stays
+    fill-work a (Store x y) s = ap₂ (three (headOf aStore 0 noTag a)) (fill-number x (s .0)) (fill-number y (s .1))
 
     pub fill-row : (x : Itb) → Small x → fillRow (waiting t) (valueNumber v) (rowOf x) ≡ rowOf (fillItb t v x)
     fill-row x s = fill-work (x .address) (x .work) (s .1)
@@ -171,55 +172,57 @@ module _ (t : Tag) where
 
 -- ---- its kind, whether it is memory's, and what it makes
 
-kind-work : (a : InstrAddr) (w : Work) → a .0 < 4294967296 → SmallWork w → kindOf (head (rowBy a w)) ≤ 4
-kind-work a (Done u v) ha s = rw (kind-back 0 0 u a (omega arith) (omega arith) (s .0) ha) (omega arith)
-kind-work a (Op u n x y) ha s = rw (kind-back 1 n u a (omega arith) (s .1) (s .0) ha) (omega arith)
-kind-work a (Jz x y) ha s = rw (kind-back 2 0 noTag a (omega arith) (omega arith) (omega arith) ha) (omega arith)
-kind-work a (Load u x) ha s = rw (kind-back 3 0 u a (omega arith) (omega arith) (s .0) ha) (omega arith)
-kind-work a (Store x y) ha s = rw (kind-back 4 0 noTag a (omega arith) (omega arith) (omega arith) ha) (omega arith)
+kind-work : (a : InstrAddr) (w : Work) → a .0 < 4294967296 → SmallWork w → kindOf (head (rowBy a w)) ≤ aStore
+kind-work a (Done u v) ha s = rw (kind-back aValue 0 u a (omega arith) (omega arith) (s .0) ha) (omega arith)
+kind-work a (Op u n x y) ha s = rw (kind-back anOp n u a (omega arith) (s .1) (s .0) ha) (omega arith)
+kind-work a (Jz x y) ha s = rw (kind-back aJz 0 noTag a (omega arith) (omega arith) (omega arith) ha) (omega arith)
+kind-work a (Load u x) ha s = rw (kind-back aLoad 0 u a (omega arith) (omega arith) (s .0) ha) (omega arith)
+kind-work a (Store x y) ha s = rw (kind-back aStore 0 noTag a (omega arith) (omega arith) (omega arith) ha) (omega arith)
 
-pub kind-row : (x : Itb) → Small x → kindOf (head (rowOf x)) ≤ 4
+pub kind-row : (x : Itb) → Small x → kindOf (head (rowOf x)) ≤ aStore
 kind-row x s = kind-work (x .address) (x .work) (s .0) (s .1)
 
-memory-work : (a : InstrAddr) (w : Work) → a .0 < 4294967296 → SmallWork w → leb 3 (kindOf (head (rowBy a w))) ≡ isMemory w
-memory-work a (Done u v) ha s = rw (kind-back 0 0 u a (omega arith) (omega arith) (s .0) ha) refl
-memory-work a (Op u n x y) ha s = rw (kind-back 1 n u a (omega arith) (s .1) (s .0) ha) refl
-memory-work a (Jz x y) ha s = rw (kind-back 2 0 noTag a (omega arith) (omega arith) (omega arith) ha) refl
-memory-work a (Load u x) ha s = rw (kind-back 3 0 u a (omega arith) (omega arith) (s .0) ha) refl
-memory-work a (Store x y) ha s = rw (kind-back 4 0 noTag a (omega arith) (omega arith) (omega arith) ha) refl
+memory-work : (a : InstrAddr) (w : Work) → a .0 < 4294967296 → SmallWork w → leb aLoad (kindOf (head (rowBy a w))) ≡ isMemory w
+memory-work a (Done u v) ha s = rw (kind-back aValue 0 u a (omega arith) (omega arith) (s .0) ha) refl
+memory-work a (Op u n x y) ha s = rw (kind-back anOp n u a (omega arith) (s .1) (s .0) ha) refl
+memory-work a (Jz x y) ha s = rw (kind-back aJz 0 noTag a (omega arith) (omega arith) (omega arith) ha) refl
+memory-work a (Load u x) ha s = rw (kind-back aLoad 0 u a (omega arith) (omega arith) (s .0) ha) refl
+memory-work a (Store x y) ha s = rw (kind-back aStore 0 noTag a (omega arith) (omega arith) (omega arith) ha) refl
 
-pub memory-row : (x : Itb) → Small x → leb 3 (kindOf (head (rowOf x))) ≡ isMemory (x .work)
+pub memory-row : (x : Itb) → Small x → leb aLoad (kindOf (head (rowOf x))) ≡ isMemory (x .work)
 memory-row x s = memory-work (x .address) (x .work) (s .0) (s .1)
 
 made-work : (a : InstrAddr) (w : Work) → a .0 < 4294967296 → SmallWork w → tagOf (head (rowBy a w)) ≡ makes w
-made-work a (Done u v) ha s = tag-back 0 0 u a (omega arith) (omega arith) (s .0) ha
-made-work a (Op u n x y) ha s = tag-back 1 n u a (omega arith) (s .1) (s .0) ha
-made-work a (Jz x y) ha s = tag-back 2 0 noTag a (omega arith) (omega arith) (omega arith) ha
-made-work a (Load u x) ha s = tag-back 3 0 u a (omega arith) (omega arith) (s .0) ha
-made-work a (Store x y) ha s = tag-back 4 0 noTag a (omega arith) (omega arith) (omega arith) ha
+made-work a (Done u v) ha s = tag-back aValue 0 u a (omega arith) (omega arith) (s .0) ha
+made-work a (Op u n x y) ha s = tag-back anOp n u a (omega arith) (s .1) (s .0) ha
+made-work a (Jz x y) ha s = tag-back aJz 0 noTag a (omega arith) (omega arith) (omega arith) ha
+made-work a (Load u x) ha s = tag-back aLoad 0 u a (omega arith) (omega arith) (s .0) ha
+made-work a (Store x y) ha s = tag-back aStore 0 noTag a (omega arith) (omega arith) (omega arith) ha
 
 pub made-row : (x : Itb) → Small x → tagOf (head (rowOf x)) ≡ makes (x .work)
 made-row x s = made-work (x .address) (x .work) (s .0) (s .1)
 
--- ---- a template that becomes a value template: its head keeps tag and address
+-- ---- a row that isn't filled is that of no template
 
-cleared : (kind op : ℕ) (t : Tag) (a : InstrAddr) → kind < 8 → op < 256 → headOf kind op t a - headOf kind op t a % 2048 ≡ headOf 0 0 t a
-cleared kind op t a hk ho = omega arith
+none-here : (t a : ℕ) → headOf aValue 0 (record { 0 = t }) (record { 0 = a }) ≡ 0 → ITB (record { 0 = a }) (Done (record { 0 = t }) Undefined) ≡ nothing
+none-here t a e =
+    let first : t ≡ 0 = omega (arith, e) in
+    let second : a ≡ 0 = omega (arith, e) in
+    λ i. ITB (record { 0 = second i }) (Done (record { 0 = first i }) Undefined)
 
-finished-work : (v : Value) (a : InstrAddr) (w : Work) → SmallWork w → finished v (rowBy a w) ≡ rowBy a (Done (makes w) v)
-finished-work v a (Done u x) s = rw (cleared 0 0 u a (omega arith) (omega arith)) refl
-finished-work v a (Op u n x y) s = rw (cleared 1 n u a (omega arith) (s .1)) refl
-finished-work v a (Jz x y) s = rw (cleared 2 0 noTag a (omega arith) (omega arith)) refl
-finished-work v a (Load u x) s = rw (cleared 3 0 u a (omega arith) (omega arith)) refl
-finished-work v a (Store x y) s = rw (cleared 4 0 noTag a (omega arith) (omega arith)) refl
+-- one of another kind, or with a word, is filled
+head-fills : (h : ℕ) (b : Bool) → h ≢ 0 → (not (eqb h 0) || b) ≡ false → ⊥
+head-fills h b d e = true≢false (sym (rw (ne-eqb h 0 d) refl) ∙ e)
 
-pub finished-row : (v : Value) (x : Itb) → Small x → finished v (rowOf x) ≡ rowOf (ITB (x .address) (Done (makes (x .work)) v))
-finished-row v x s = finished-work v (x .address) (x .work) (s .1)
+filled-work : (a : InstrAddr) (w : Work) → SmallWork w → isFilled (rowBy a w) ≡ false → ITB a w ≡ nothing
+filled-work a (Done t Undefined) s e = none-here (t .0) (a .0) (test (eqb (headOf aValue 0 t a) 0) (λ q. eqb-true _ _ q) (λ q. absurd (head-fills (headOf aValue 0 t a) false (λ z. eqb-false _ _ q z) e)))
+filled-work a (Done t (Word w)) s e =
+    let other : eqb w noWord ≡ false = ne-eqb w noWord (λ q. omega (arith, q, s .1)) in
+    absurd (true≢false (sym (rw other (or-true (not (eqb (headOf aValue 0 t a) 0)))) ∙ e))
+filled-work a (Op t n x y) s e = absurd (head-fills (headOf anOp n t a) (not (eqb (number x) noWord) || not (eqb (number y) noWord)) (λ q. omega (arith, q)) e)
+filled-work a (Jz x y) s e = absurd (head-fills (headOf aJz 0 noTag a) (not (eqb (number x) noWord) || not (eqb (number y) noWord)) (λ q. omega (arith, q)) e)
+filled-work a (Load t x) s e = absurd (head-fills (headOf aLoad 0 t a) (not (eqb (number x) noWord) || false) (λ q. omega (arith, q)) e)
+filled-work a (Store x y) s e = absurd (head-fills (headOf aStore 0 noTag a) (not (eqb (number x) noWord) || not (eqb (number y) noWord)) (λ q. omega (arith, q)) e)
 
--- every work makes a small tag
-pub makes-small : (w : Work) → SmallWork w → SmallTag (makes w)
-makes-small (Done u v) s = s .0
-makes-small (Op u n x y) s = s .0
-makes-small (Jz x y) s = omega arith
-makes-small (Load u x) s = s .0
-makes-small (Store x y) s = omega arith
+pub filled-row : (x : Itb) → Small x → isFilled (rowOf x) ≡ false → x ≡ nothing
+filled-row x s e = filled-work (x .address) (x .work) (s .1) e

@@ -3,3 +3,4 @@ pub mod Walks
 pub mod Typed
 pub mod Coding
 pub mod Showing
+pub mod Works

@@ -3,32 +3,29 @@ use mathlib.Core.Path.{_≡_, refl, sym, ap, ap₂, subst, _∙_}
 use Prim.Native.Nat.{ℕ, zero, suc, _+_, _-_, _≤_, _<_}
 use native.Mathlib.Numerals.{add-one}
 use native.Mathlib.Omega.{arith}
-use mathlib.Core.Bool.{Bool, true, false, _||_}
-use mathlib.Core.List.{List, [], _∷_, _++_, map, append-assoc}
+use mathlib.Core.Bool.{Bool, _||_}
+use mathlib.Core.List.{List, [], _∷_, _++_, map, append-assoc, map-append}
 use lib.Dec.{eqb, leb}
-use lib.ListN.{length, getD, set, take, drop, replicate, length-map, length-set, length-take, length-append, length-replicate, length-drop, List·getD-map}
-use lib.Seq.{length-take-le, getD-take, take-suc, take-at, take-all, take-append-add, take-append-seam, drop-cons, take-set-lt, take-suc-set, set-split, take-take, split-at, append-snoc}
+use lib.ListN.{length, getD, set, take, drop, replicate, length-map, length-set, length-take, length-append, length-drop, List·getD-map}
+use lib.Seq.{length-take-le, getD-take, take-at, take-append-add, take-append-seam, take-set-lt, take-suc-set, set-split, take-take, take-suc, take-all}
 use borrow.Author.Tests.{lt-ltb}
 use Rattle.value.specs.declared.Value.{Value}
 use Rattle.value.specs.Operation.{undefined}
 use Rattle.isa.specs.Instruction.{registers}
-use Rattle.isa.specs.declared.Instr.{Instr}
-use Rattle.isa.specs.declared.Instr.the-variants as Instr
-use Rattle.isa.specs.declared.InstrAddr.{InstrAddr}
 use Rattle.isa.specs.declared.Reg.{Reg}
 use Rattle.isa.specs.declared.Tag.{Tag}
 use Rattle.templates.specs.declared.Operand.{Operand}
-use Rattle.templates.specs.declared.Operand.the-variants.{Known, Waits}
+use Rattle.templates.specs.declared.Operand.the-variants.{Known}
 use Rattle.templates.specs.declared.Register.{Register}
 use Rattle.templates.specs.declared.Template.{Template}
 use Rattle.templates.specs.declared.Work.the-variants.{Done}
-use Rattle.templates.specs.Templates.{any, waits, makes, register, contents, put, anyReg, fill, fillRegs, sameTag}
+use Rattle.templates.specs.Templates.{any, waits, register, put, anyReg, fill, fillRegs, sameTag}
 use Rattle.templates.specs.Machine.{Itb, ITB, nothing, anyHolds, anyMakes, anyMemory, fillAll, fillItb}
-use Rattle.templates.specs.Layout.{places, template, blank, itbs, lay}
-use Rattle.rows.specs.Rows.{Row, noWord, waiting, valueNumber, number, operandOf, rowOf, itbOf, head, one, kindOf, tagOf, blankRow, rowAt, kindAt, tagAt, valueAt, valueOf, heldBehind, memoryBefore, producedIn, inRegister, holdsRow, among, mapFrom, fillRow, fillNumber, filledBehind, withoutAt, without, finished}
+use Rattle.templates.specs.Layout.{places, template, blank, itb, lay, itbs}
+use Rattle.rows.specs.Rows.{Row, aLoad, aStore, noWord, waiting, valueNumber, number, operandOf, contentsAt, rowOf, itbOf, head, one, kindOf, tagOf, blankRow, rowAt, kindAt, tagAt, heldBehind, memoryBefore, producedIn, inRegister, holdsRow, mapFrom, fillRow, fillNumber, filledBehind, without}
 use Rattle.rows.specs.Shown.{heldOf, regsOf, numbersOf, Table, File, laid, laidTemplates, laidRegisters}
-use Rattle.rows.specs.Answers.{SmallTag, SmallValue, SmallOperand, Small, All, Finishes, Fills, Holds, Turns, TurnsRegisters}
-use Rattle.rows.proofs.Coding.{value-back, operand-back, operand-small, row-back, row-small, waits-number, holds-row, fill-number, fill-small, fill-row, fill-itb-small, kind-row, memory-row, made-row, finished-row, makes-small}
+use Rattle.rows.specs.Answers.{SmallValue, SmallOperand, Small, All, Finishes, Fills, Holds, Puts, TurnsRegisters}
+use Rattle.rows.proofs.Coding.{operand-back, operand-small, row-back, row-small, waits-number, holds-row, fill-number, fill-small, fill-row, fill-itb-small, kind-row, memory-row, made-row}
 
 -- ---- each of a list
 
@@ -47,11 +44,6 @@ module _ {A : Type 0} (P : A → Type 0) where
   all-join [] ys s r = r
   all-join (x ∷ xs) ys s r = (s .0, all-join xs ys (s .1) r)
 
-  pub all-at : (xs : List A) (i : ℕ) (d : A) → i < length xs → All P xs → P (getD xs i d)
-  all-at [] i d h s = absurd (omega (arith, h))
-  all-at (x ∷ xs) zero d h s = s .0
-  all-at (x ∷ xs) (suc i) d h s = all-at xs i d (omega (arith, h)) (s .1)
-
   pub all-map : {B : Type 0} (Q : B → Type 0) (f : A → B) → ((x : A) → P x → Q (f x)) → (xs : List A) → All P xs → All Q (map f xs)
   all-map Q f h [] s = tt
   all-map Q f h (x ∷ xs) s = (h x (s .0), all-map Q f h xs (s .1))
@@ -68,10 +60,6 @@ module _ {A B : Type 0} (f : A → B) where
   map-drop zero xs = refl
   map-drop (suc n) [] = refl
   map-drop (suc n) (x ∷ xs) = map-drop n xs
-
-  pub map-join : (xs ys : List A) → map f (xs ++ ys) ≡ map f xs ++ map f ys
-  map-join [] ys = refl
-  map-join (x ∷ xs) ys = ap (λ zs. f x ∷ zs) (map-join xs ys)
 
   pub map-at : (xs : List A) (p : ℕ) (d : A) (e : B) → p < length xs → getD (map f xs) p e ≡ f (getD xs p d)
   map-at [] p d e h = absurd (omega (arith, h))
@@ -119,6 +107,12 @@ module _ {n : ℕ} {ts : List Row} where
 
 -- ---- the table
 
+pub held-size : (n : ℕ) (ts : List Row) → n ≤ length ts → length (heldOf n ts) ≡ n
+held-size n ts h = length-map (take n ts) itbOf ∙ length-take-le n ts h
+
+pub at-shown : (n : ℕ) (ts : List Row) (i : ℕ) → i < n → n ≤ length ts → getD (heldOf n ts) i nothing ≡ itbOf (rowAt ts i)
+at-shown n ts i l h = map-at itbOf (take n ts) i blankRow nothing (omega (arith, length-take-le n ts h, l)) ∙ ap itbOf (getD-take n ts i blankRow l)
+
 module _ {n : ℕ} {ts : List Row} (t : Table n ts) where
   abbrev held : List Itb
   held = heldOf n ts
@@ -133,15 +127,12 @@ module _ {n : ℕ} {ts : List Row} (t : Table n ts) where
   first-long = length-take-le n ts (omega (arith, t .long, t .few))
 
   pub held-long : length held ≡ n
-  held-long = length-map (take n ts) itbOf ∙ first-long
+  held-long = held-size n ts (omega (arith, t .long, t .few))
 
   -- ---- at a place
   module _ {p : ℕ} (h : p < n) where
-    inside : p < length (take n ts)
-    inside = omega (arith, first-long)
-
     pub here : itbOf (rowAt ts p) ≡ getD held p nothing
-    here = ap itbOf (sym (getD-take n ts p blankRow h)) ∙ sym (map-at itbOf (take n ts) p blankRow nothing inside)
+    here = sym (at-shown n ts p h (omega (arith, t .long, t .few)))
 
     pub row-here : rowAt ts p ≡ rowOf (itbOf (rowAt ts p))
     row-here =
@@ -153,11 +144,8 @@ module _ {n : ℕ} {ts : List Row} (t : Table n ts) where
     pub here-small : Small (itbOf (rowAt ts p))
     here-small = row-small (rowAt ts p)
 
-    pub kind-most : kindAt ts p ≤ 4
+    pub kind-most : kindAt ts p ≤ aStore
     kind-most = rw row-here (kind-row (itbOf (rowAt ts p)) here-small)
-
-    pub tag-here : tagAt ts p ≡ makes (itbOf (rowAt ts p) .work)
-    tag-here = ap (λ (x : Row). tagOf (head x)) row-here ∙ made-row (itbOf (rowAt ts p)) here-small
 
     -- ---- a search behind it
     pub searched : heldBehind n p ts ≡ anyHolds (tagAt ts p) (drop (suc p) held)
@@ -171,7 +159,7 @@ module _ {n : ℕ} {ts : List Row} (t : Table n ts) where
     searched-memory =
         let less : p ≤ n = omega arith in
         ap (any _) (sym (take-take p n ts less) ∙ ap (take p) coded ∙ sym (map-take rowOf p held))
-        ∙ any-same Small rowOf (λ x. leb 3 (kindOf (head x))) _ memory-row (take p held) (all-take Small p held small)
+        ∙ any-same Small rowOf (λ x. leb aLoad (kindOf (head x))) _ memory-row (take p held) (all-take Small p held small)
 
   pub searched-makes : (u : Tag) → producedIn n u ts ≡ anyMakes u held
   searched-makes u =
@@ -219,7 +207,7 @@ module _ {n : ℕ} {ts : List Row} (t : Table n ts) where
         ∙ map-map rowOf f (drop (suc p) held)
         ∙ map-same Small (λ x. f (rowOf x)) (λ x. rowOf (fillItb (tagAt ts p) v x)) (fill-row (tagAt ts p) v) (drop (suc p) held) (all-drop Small (suc p) held (in-table .small))
         ∙ sym (map-map (fillItb (tagAt ts p) v) rowOf (drop (suc p) held)))
-        ∙ sym (map-join rowOf (take (suc p) held) (fillAll (tagAt ts p) v (drop (suc p) held)))
+        ∙ sym (map-append rowOf (take (suc p) held) (fillAll (tagAt ts p) v (drop (suc p) held)))
 
     pub fills : Shows n (filledBehind n p ts) filled
     fills =
@@ -250,7 +238,7 @@ module _ {n : ℕ} {ts : List Row} (t : Table n ts) where
         let held = heldOf n ts in
         ap (λ (xs : List Row). take p xs ++ drop (suc p) xs) (in-table .rows)
         ∙ ap₂ _++_ (sym (map-take rowOf p held)) (sym (map-drop rowOf (suc p) held))
-        ∙ sym (map-join rowOf (take p held) (drop (suc p) held))
+        ∙ sym (map-append rowOf (take p held) (drop (suc p) held))
 
     left-long : length (take p (take n ts) ++ drop (suc p) (take n ts)) ≡ n - 1
     left-long = ap length left-rows ∙ length-map left rowOf ∙ length-append (take p (heldOf n ts)) (drop (suc p) (heldOf n ts)) ∙ omega (arith, length-take p (heldOf n ts), length-drop (suc p) (heldOf n ts), held-long t)
@@ -273,42 +261,26 @@ module _ {n : ℕ} {ts : List Row} (t : Table n ts) where
 
     -- it becomes a value template
     module _ {v : Value} {ts′ : List Row} (f : Finishes p v ts ts′) where
-      abbrev ends : List Itb
-      ends = take p (heldOf n ts) ++ ITB (itbOf (rowAt ts p) .address) (Done (tagAt ts p) v) ∷ drop (suc p) (heldOf n ts)
-
       abbrev ended : Itb
       ended = ITB (itbOf (rowAt ts p) .address) (Done (tagAt ts p) v)
 
-      ended-row : finished v (rowAt ts p) ≡ rowOf ended
-      ended-row =
-          ap (finished v) (row-here t h) ∙ finished-row v (itbOf (rowAt ts p)) (row-small (rowAt ts p))
-          ∙ ap (λ (u : Tag). rowOf (ITB (itbOf (rowAt ts p) .address) (Done u v))) (sym (tag-here t h))
+      abbrev ends : List Itb
+      ends = take p (heldOf n ts) ++ ended ∷ drop (suc p) (heldOf n ts)
 
       pub finishes : Shows n ts′ ends
       finishes =
           let held = heldOf n ts in
           record {
             rows =
-                ap (take n) (f .rows) ∙ take-set-lt n ts p (finished v (rowAt ts p)) h ∙ ap (λ (xs : List Row). set xs p (finished v (rowAt ts p))) (in-table .rows)
-                ∙ set-split (map rowOf held) p (finished v (rowAt ts p)) (omega (arith, length-map held rowOf, held-long t))
-                ∙ ap₂ _++_ (sym (map-take rowOf p held)) (ap₂ _∷_ ended-row (sym (map-drop rowOf (suc p) held)))
-                ∙ sym (map-join rowOf (take p held) (ended ∷ drop (suc p) held));
-            small =
-                all-join Small (take p held) (ended ∷ drop (suc p) held) (all-take Small p held (in-table .small))
-                ((omega arith, (omega arith, f .small)), all-drop Small (suc p) held (in-table .small));
+                ap (take n) (f .rows) ∙ take-set-lt n ts p (rowOf ended) h ∙ ap (λ (xs : List Row). set xs p (rowOf ended)) (in-table .rows)
+                ∙ set-split (map rowOf held) p (rowOf ended) (omega (arith, length-map held rowOf, held-long t))
+                ∙ ap₂ _++_ (sym (map-take rowOf p held)) (ap (λ (xs : List Row). rowOf ended ∷ xs) (sym (map-drop rowOf (suc p) held)))
+                ∙ sym (map-append rowOf (take p held) (ended ∷ drop (suc p) held));
+            small = all-join Small (take p held) (ended ∷ drop (suc p) held) (all-take Small p held (in-table .small)) (f .small, all-drop Small (suc p) held (in-table .small));
           }
 
       pub finishes-long : length ts′ ≡ places
-      finishes-long = ap length (f .rows) ∙ length-set ts p (finished v (rowAt ts p)) ∙ t .long
-
-  -- one more
-  module _ (h : n < places) (x : Itb) (s : Small x) where
-    pub more : Shows (n + 1) (set ts n (rowOf x)) (heldOf n ts ++ x ∷ [])
-    more =
-        record {
-          rows = rw add-one (take-suc-set ts n (rowOf x) (omega (arith, t .long)) ∙ ap (λ (ys : List Row). ys ++ rowOf x ∷ []) (in-table .rows) ∙ sym (map-join rowOf (heldOf n ts) (x ∷ [])));
-          small = all-join Small (heldOf n ts) (x ∷ []) (in-table .small) (s, tt);
-        }
+      finishes-long = ap length (f .rows) ∙ length-set ts p (rowOf ended) ∙ t .long
 
 -- ---- registers
 
@@ -359,32 +331,20 @@ module _ {rf : List ℕ} (f : File rf) where
   pub searched-registers : (t : Tag) → inRegister t rf ≡ anyReg t rs
   searched-registers t = ap (any (λ k. eqb k (waiting t))) (lists f .numbers) ∙ any-register t rs (small-registers rf)
 
-  -- what a register holds
-  pub number-here : (r : Reg) → getD rf (r .0) noWord ≡ number (contents rs r)
-  number-here r = ap (λ (ks : List ℕ). getD ks (r .0) noWord) (lists f .numbers) ∙ List·getD-map (λ (x : Register). number (x .holds)) rs (r .0) (register (Known undefined))
-
-  pub contents-small : (r : Reg) → SmallOperand (contents rs r)
-  contents-small r = go rs (r .0) (small-registers rf)
-    where
-      go : (xs : List Register) (i : ℕ) → All SmallRegister xs → SmallOperand (getD xs i (register (Known undefined)) .holds)
-      go [] i s = tt
-      go (x ∷ xs) zero s = s .0
-      go (x ∷ xs) (suc i) s = go xs i (s .1)
-
-  -- one holds a tag
-  module _ {r : Reg} {t : Tag} {rf′ : List ℕ} (h : Holds r t rf rf′) where
-    holds-lists : Lists rf′ (put rs r (Waits t))
+  -- one is set
+  module _ {r : Reg} {o : Operand} {rf′ : List ℕ} (h : Holds r o rf rf′) where
+    holds-lists : Lists rf′ (put rs r o)
     holds-lists =
         record {
-          numbers = h .numbers ∙ ap (λ (ks : List ℕ). set ks (r .0) (waiting t)) (lists f .numbers) ∙ sym (map-set (λ (x : Register). number (x .holds)) rs (r .0) (register (Waits t)));
-          small = all-set SmallRegister rs (r .0) (register (Waits t)) (h .small) (small-registers rf);
+          numbers = h .numbers ∙ ap (λ (ks : List ℕ). set ks (r .0) (number o)) (lists f .numbers) ∙ sym (map-set (λ (x : Register). number (x .holds)) rs (r .0) (register o));
+          small = all-set SmallRegister rs (r .0) (register o) (h .small) (small-registers rf);
         }
 
-    pub held-listed : regsOf rf′ ≡ put rs r (Waits t)
+    pub held-listed : regsOf rf′ ≡ put rs r o
     held-listed = listed holds-lists
 
     pub held-filed : File rf′
-    held-filed = filed holds-lists (ap length (h .numbers) ∙ length-set rf (r .0) (waiting t) ∙ f .long)
+    held-filed = filed holds-lists (ap length (h .numbers) ∙ length-set rf (r .0) (number o) ∙ f .long)
 
   -- a value is filled in
   module _ {t : Tag} {v : Value} {rf′ : List ℕ} (h : Fills t v rf rf′) where
@@ -419,24 +379,42 @@ laid-out k d xs h =
     ap (λ (n : ℕ). take n (xs ++ replicate k d)) all ∙ take-append-add xs (replicate k d) (k - length xs)
     ∙ ap (λ ys. xs ++ ys) (take-replicate (k - length xs) k d (omega arith))
 
-module _ {n : ℕ} {ts : List Template} {r : List Row} (u : Turns n ts r) (e : length (itbs (take n ts)) ≡ n) (f : n ≤ places) where
-  abbrev xs : List Itb
-  xs = itbs (take n ts)
+-- of no template
+pub shows-none : (ts : List Row) → Shows 0 ts []
+shows-none ts = record { rows = refl; small = tt }
 
-  rows-long : length (map rowOf xs) ≡ n
-  rows-long = length-map xs rowOf ∙ e
+-- one more is put
+pub shows-more : {i : ℕ} {ts : List Row} {xs : List Itb} → Shows i ts xs → i < length ts → {x : Template} {ts′ : List Row} → Puts i x ts ts′ → Shows (i + 1) ts′ (xs ++ itb x ∷ [])
+shows-more {i} {ts} {xs} s h {x} {ts′} u =
+    record {
+      rows = ap (take (i + 1)) (u .rows) ∙ rw add-one (take-suc-set ts i (rowOf (itb x)) h ∙ ap (λ ys. ys ++ rowOf (itb x) ∷ []) (s .rows) ∙ sym (map-append rowOf xs (itb x ∷ [])));
+      small = all-join Small xs (itb x ∷ []) (s .small) (u .small, tt);
+    }
 
-  opened : r ≡ map rowOf xs ++ replicate (places - n) blankRow
-  opened = u .rows ∙ laid-out places blankRow (map rowOf xs) (omega (arith, rows-long)) ∙ ap (λ (k : ℕ). map rowOf xs ++ replicate (places - k) blankRow) rows-long
+-- each of those given is put at its place in turn
+module _ (given : List Template) where
+  pub turned-more : {i : ℕ} {ts : List Row} → Shows i ts (itbs (take i given)) → i < length ts → i < length given
+      → {ts′ : List Row} → Puts i (getD given i blank) ts ts′ → Shows (i + 1) ts′ (itbs (take (i + 1) given))
+  turned-more {i} {ts} s h l {ts′} u =
+      subst (Shows (i + 1) ts′) (sym (rw add-one (ap itbs (take-suc given i blank l) ∙ map-append itb (take i given) (getD given i blank ∷ [])))) (shows-more s h u)
 
-  turned : Shows n r xs
-  turned = record { rows = ap (take n) opened ∙ take-at (map rowOf xs) (replicate (places - n) blankRow) n rows-long; small = u .small }
+  pub turned-whole : length given ≡ places → {i : ℕ} {ts : List Row} → Shows i ts (itbs (take i given)) → i ≡ places → Shows places ts (itbs given)
+  turned-whole long {i} {ts} s e =
+      subst (λ (xs : List Template). Shows places ts (itbs xs)) (take-all places given (omega (arith, long)))
+      (subst (λ (n : ℕ). Shows n ts (itbs (take n given))) e s)
 
-  pub turned-held : heldOf n r ≡ xs
-  turned-held = shown turned
+-- the first of them alone
+pub shows-fewer : {k : ℕ} {ts : List Row} {xs : List Itb} → Shows k ts xs → (n : ℕ) → n ≤ k → Shows n ts (take n xs)
+shows-fewer {k} {ts} {xs} s n h = record { rows = sym (take-take n k ts h) ∙ ap (take n) (s .rows) ∙ sym (map-take rowOf n xs); small = all-take Small n xs (s .small) }
 
-  pub turned-table : Table n r
-  turned-table = tabled turned (ap length opened ∙ length-append (map rowOf xs) (replicate (places - n) blankRow) ∙ omega (arith, rows-long, length-replicate (places - n) blankRow)) f
+pub registers-size : (rf : List ℕ) → length (regsOf rf) ≡ length rf
+registers-size rf = length-map rf (λ k. register (operandOf k))
+
+pub number-shown : (rs : List Register) (i : ℕ) → getD (numbersOf rs) i noWord ≡ number (getD rs i (register (Known undefined)) .holds)
+number-shown rs i = List·getD-map (λ (x : Register). number (x .holds)) rs i (register (Known undefined))
+
+pub register-shown : (rf : List ℕ) (i : ℕ) → getD (regsOf rf) i (register (Known undefined)) ≡ register (contentsAt rf i)
+register-shown rf i = List·getD-map (λ k. register (operandOf k)) rf i noWord
 
 module _ {rs : List Register} {r : List ℕ} (u : TurnsRegisters rs r) where
   turned-lists : Lists r rs

@@ -1,19 +1,15 @@
--- What the types say: how large the numbers of an instruction are.
+-- What the types say: how long a state's table is.
+use mathlib.Core.Path.{_≡_, sym, _∙_}
 use mathlib.Core.List.{List}
+use lib.ListN.{length, length-map}
 use mir.Val.{Val}
 use denote.Laws.{Is}
-use denote.Enum.Declared.{row}
-use denote.Enum.Laws.{owed}
-use Rattle.isa.specs.declared.Instr.{Instr}
-use Rattle.isa.specs.declared.Instr.the-variants.{Loadc, Loadpc, Op, Jz, Load, Store}
-use Rattle.isa.proofs.Instr as T
-use Rattle.isa.proofs.Instr.Laws as L
-use Rattle.rows.specs.Answers.{SmallInstr}
+use denote.Struct.Laws as LL
+use Rattle.templates.specs.declared.State.{State}
+use Rattle.templates.specs.Layout.{places}
+use Rattle.templates.proofs.State as TS
+use Rattle.templates.proofs.State.Laws as TS′
 
-pub small-instr : (i : Instr) {vs : List Val} → Is (row T.the-type) i vs → SmallInstr i
-small-instr (Loadc r k) {vs} g = owed T.the-type L.the-laws (Loadc r k) vs g .1 .0 .1
-small-instr (Loadpc r) g = tt
-small-instr (Op r n r1 r2) {vs} g = owed T.the-type L.the-laws (Op r n r1 r2) vs g .1 .0 .1
-small-instr (Jz r1 r2) g = tt
-small-instr (Load r r1) g = tt
-small-instr (Store r1 r2) g = tt
+-- the table is the third field
+pub full : (s : State) {vs : List Val} → Is TS.the-row s vs → length (s .templates) ≡ places
+full s g = sym (length-map (s .templates) _) ∙ LL.owed TS.the-type TS′.the-laws s _ g .1 .1 .0 .1 .0 .1

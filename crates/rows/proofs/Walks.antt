@@ -41,7 +41,7 @@ module _ {A B : Type 0} (f : A → B) (n : ℕ) (xs : List A) where
 -- ---- the first n of a list are those that there are
 
 module _ {A : Type 0} where
-  take-least : (k n : ℕ) (xs : List A) → k ≡ min n (length xs) → take k xs ≡ take n xs
+  pub take-least : (k n : ℕ) (xs : List A) → k ≡ min n (length xs) → take k xs ≡ take n xs
   take-least zero zero xs e = refl
   take-least zero (suc n) [] e = refl
   take-least zero (suc n) (x ∷ xs) e = absurd (omega (arith, e))

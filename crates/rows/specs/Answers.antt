@@ -2,13 +2,10 @@
 use mathlib.Core.Path.{_≡_}
 use Prim.Native.Nat.{ℕ, _<_}
 use mathlib.Core.List.{List, [], _∷_, map}
-use lib.ListN.{length, set, take}
+use lib.ListN.{length, set}
 use Rattle.value.specs.declared.Value.{Value}
 use Rattle.value.specs.declared.Value.the-variants.{Undefined, Word}
 use Rattle.isa.specs.Instruction.{registers}
-use Rattle.isa.specs.declared.InstrAddr.{InstrAddr}
-use Rattle.isa.specs.declared.Instr.{Instr}
-use Rattle.isa.specs.declared.Instr.the-variants as Instr
 use Rattle.isa.specs.declared.Reg.{Reg}
 use Rattle.isa.specs.declared.Tag.{Tag}
 use Rattle.templates.specs.declared.Operand.{Operand}
@@ -17,10 +14,10 @@ use Rattle.templates.specs.declared.Register.{Register}
 use Rattle.templates.specs.declared.Template.{Template}
 use Rattle.templates.specs.declared.Work.{Work}
 use Rattle.templates.specs.declared.Work.the-variants.{Done, Op, Jz, Load, Store}
-use Rattle.templates.specs.Machine.{Itb}
-use Rattle.templates.specs.Layout.{places, itbs}
-use Rattle.rows.specs.Rows.{Row, waiting, valueNumber, number, headOf, rowOf, blankRow, rowAt, fillNumber, finished, rowFor}
-use Rattle.rows.specs.Shown.{numbersOf, laid}
+use Rattle.templates.specs.Machine.{Itb, ITB}
+use Rattle.templates.specs.Layout.{itb, template}
+use Rattle.rows.specs.Rows.{Row, waiting, valueNumber, number, rowOf, tagAt, addressAt, fillNumber}
+use Rattle.rows.specs.Shown.{numbersOf}
 
 -- ---- what a type says
 
@@ -45,14 +42,6 @@ SmallWork (Store x y) = SmallOperand x × SmallOperand y
 abbrev pub Small : Itb → Type 0
 Small x = (x .address .0 < 4294967296) × SmallWork (x .work)
 
-abbrev pub SmallInstr : Instr → Type 0
-SmallInstr (Instr.Loadc r k) = k < 4294967296
-SmallInstr (Instr.Loadpc r) = Unit {0}
-SmallInstr (Instr.Op r n r1 r2) = n < 256
-SmallInstr (Instr.Jz r1 r2) = Unit {0}
-SmallInstr (Instr.Load r r1) = Unit {0}
-SmallInstr (Instr.Store r1 r2) = Unit {0}
-
 -- of each of a list
 abbrev pub All : {A : Type 0} → (A → Type 0) → List A → Type 0
 All P [] = Unit {0}
@@ -74,29 +63,23 @@ pub record CodesRow (x : Itb) (r : Row) : Type 0 where
 
 -- ---- changes
 
-pub record Finishes (p : ℕ) (v : Value) (ts ts′ : List Row) : Type 0 where
-  pub rows : ts′ ≡ set ts p (finished v (rowAt ts p))
-  pub small : SmallValue v
-
 pub record Fills (t : Tag) (v : Value) (rf rf′ : List ℕ) : Type 0 where
   pub numbers : rf′ ≡ map (fillNumber (waiting t) (valueNumber v)) rf
   pub small : SmallValue v
 
-pub record Holds (r : Reg) (t : Tag) (rf rf′ : List ℕ) : Type 0 where
-  pub numbers : rf′ ≡ set rf (r .0) (waiting t)
-  pub small : SmallTag t
+pub record Holds (r : Reg) (o : Operand) (rf rf′ : List ℕ) : Type 0 where
+  pub numbers : rf′ ≡ set rf (r .0) (number o)
+  pub small : SmallOperand o
 
-pub record Adds (n : ℕ) (rf : List ℕ) (ia : InstrAddr) (t : Tag) (i : Instr) (ts ts′ : List Row) : Type 0 where
-  pub rows : ts′ ≡ set ts n (rowFor rf ia t i)
-  pub tag : SmallTag t
-  pub address : ia .0 < 4294967296
-  pub instruction : SmallInstr i
+pub record Puts (p : ℕ) (x : Template) (ts ts′ : List Row) : Type 0 where
+  pub rows : ts′ ≡ set ts p (rowOf (itb x))
+  pub small : Small (itb x)
+
+-- a value template with the tag and the address of the one that stood there
+abbrev pub Finishes : ℕ → Value → List Row → List Row → Type 0
+Finishes p v ts ts′ = Puts p (template (ITB (addressAt ts p) (Done (tagAt ts p) v))) ts ts′
 
 -- ---- the way in
-
-pub record Turns (n : ℕ) (ts : List Template) (r : List Row) : Type 0 where
-  pub rows : r ≡ laid places blankRow (map rowOf (itbs (take n ts)))
-  pub small : All Small (itbs (take n ts))
 
 pub record TurnsRegisters (rs : List Register) (r : List ℕ) : Type 0 where
   pub numbers : r ≡ numbersOf rs

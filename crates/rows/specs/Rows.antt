@@ -1,16 +1,12 @@
 -- A template as a row of three numbers, its head and its operands; and what is found and done on rows.
-use mathlib.Core.Path.{_≡_}
-use Prim.Native.Nat.{ℕ, suc, _+_, _-_, _*_, _/_, _%_, _≤_, _<_}
-use mathlib.Core.Bool.{Bool, cond, _||_}
+use Prim.Native.Nat.{ℕ, suc, _+_, _-_, _*_, _/_, _%_}
+use mathlib.Core.Bool.{Bool, cond, _||_, not}
 use mathlib.Core.List.{List, [], _∷_, _++_, map}
 use lib.Dec.{eqb, ltb, leb}
 use lib.ListN.{length, getD, take, drop}
 use Rattle.value.specs.declared.Value.{Value}
 use Rattle.value.specs.declared.Value.the-variants.{Undefined, Word}
 use Rattle.isa.specs.declared.InstrAddr.{InstrAddr}
-use Rattle.isa.specs.declared.Instr.{Instr}
-use Rattle.isa.specs.declared.Instr.the-variants as Instr
-use Rattle.isa.specs.declared.Reg.{Reg}
 use Rattle.isa.specs.declared.Tag.{Tag}
 use Rattle.templates.specs.declared.Operand.{Operand}
 use Rattle.templates.specs.declared.Operand.the-variants.{Known, Waits}
@@ -48,15 +44,31 @@ operandOf k = cond (leb k noWord) (Known (valueOf k)) (Waits (record { 0 = (k - 
 abbrev pub Row : Type 0
 Row = List ℕ
 
+-- the kinds
+abbrev pub aValue : ℕ
+aValue = 0
+
+abbrev pub anOp : ℕ
+anOp = 1
+
+abbrev pub aJz : ℕ
+aJz = 2
+
+abbrev pub aLoad : ℕ
+aLoad = 3
+
+abbrev pub aStore : ℕ
+aStore = 4
+
 abbrev pub headOf : ℕ → ℕ → Tag → InstrAddr → ℕ
 headOf kind op t a = kind + 8 * op + 2048 * t .0 + 4294967296 * a .0
 
 abbrev pub rowBy : InstrAddr → Work → Row
-rowBy a (Done t v) = headOf 0 0 t a ∷ valueNumber v ∷ noWord ∷ []
-rowBy a (Op t n x y) = headOf 1 n t a ∷ number x ∷ number y ∷ []
-rowBy a (Jz x y) = headOf 2 0 noTag a ∷ number x ∷ number y ∷ []
-rowBy a (Load t x) = headOf 3 0 t a ∷ number x ∷ noWord ∷ []
-rowBy a (Store x y) = headOf 4 0 noTag a ∷ number x ∷ number y ∷ []
+rowBy a (Done t v) = headOf aValue 0 t a ∷ valueNumber v ∷ noWord ∷ []
+rowBy a (Op t n x y) = headOf anOp n t a ∷ number x ∷ number y ∷ []
+rowBy a (Jz x y) = headOf aJz 0 noTag a ∷ number x ∷ number y ∷ []
+rowBy a (Load t x) = headOf aLoad 0 t a ∷ number x ∷ noWord ∷ []
+rowBy a (Store x y) = headOf aStore 0 noTag a ∷ number x ∷ number y ∷ []
 
 abbrev pub rowOf : Itb → Row
 rowOf x = rowBy (x .address) (x .work)
@@ -91,10 +103,10 @@ addressOf h = record { 0 = h / 4294967296 % 4294967296 }
 -- the work of a kind
 abbrev pub workBy : ℕ → ℕ → ℕ → ℕ → Work
 workBy kind h a b =
-    cond (eqb kind 0) (Done (tagOf h) (valueOf a))
-    (cond (eqb kind 1) (Op (tagOf h) (operationOf h) (operandOf a) (operandOf b))
-    (cond (eqb kind 2) (Jz (operandOf a) (operandOf b))
-    (cond (eqb kind 3) (Load (tagOf h) (operandOf a))
+    cond (eqb kind aValue) (Done (tagOf h) (valueOf a))
+    (cond (eqb kind anOp) (Op (tagOf h) (operationOf h) (operandOf a) (operandOf b))
+    (cond (eqb kind aJz) (Jz (operandOf a) (operandOf b))
+    (cond (eqb kind aLoad) (Load (tagOf h) (operandOf a))
     (Store (operandOf a) (operandOf b)))))
 
 -- the template that a row stands for
@@ -127,6 +139,13 @@ firstAt ts p = operandOf (one (rowAt ts p))
 abbrev pub secondAt : List Row → ℕ → Operand
 secondAt ts p = operandOf (two (rowAt ts p))
 
+-- a register that is none is undefined
+abbrev pub numberAt : List ℕ → ℕ → ℕ
+numberAt rf i = getD rf i noWord
+
+abbrev pub contentsAt : List ℕ → ℕ → Operand
+contentsAt rf i = operandOf (numberAt rf i)
+
 -- ---- searches: holding a tag is an equality of numbers
 
 abbrev pub holdsRow : ℕ → Row → Bool
@@ -137,13 +156,20 @@ abbrev pub heldBehind : ℕ → ℕ → List Row → Bool
 heldBehind n p ts = any (holdsRow (waiting (tagAt ts p))) (drop (suc p) (take n ts))
 
 abbrev pub memoryBefore : ℕ → List Row → Bool
-memoryBefore n ts = any (λ x. leb 3 (kindOf (head x))) (take n ts)
+memoryBefore n ts = any (λ x. leb aLoad (kindOf (head x))) (take n ts)
 
 abbrev pub producedIn : ℕ → Tag → List Row → Bool
 producedIn n t ts = any (λ x. eqb (tagOf (head x) .0) (t .0)) (take n ts)
 
 abbrev pub inRegister : Tag → List ℕ → Bool
 inRegister t rf = any (λ k. eqb k (waiting t)) rf
+
+-- another row than the blank's
+abbrev pub isFilled : Row → Bool
+isFilled x = not (eqb (head x) 0) || (not (eqb (one x) noWord) || not (eqb (two x) noWord))
+
+abbrev pub filledFrom : ℕ → List Row → Bool
+filledFrom n ts = any isFilled (drop n ts)
 
 -- ---- changes
 
@@ -172,20 +198,3 @@ withoutAt p ts = take p ts ++ (drop (suc p) ts ++ blankRow ∷ [])
 -- a place that is none leaves them
 abbrev pub without : ℕ → ℕ → List Row → List Row
 without n p ts = cond (ltb p (length (take n ts))) (among n (withoutAt p) ts) ts
-
--- kind and operation cleared, tag and address as they were
-abbrev pub finished : Value → Row → Row
-finished v x = (head x - head x % 2048) ∷ valueNumber v ∷ noWord ∷ []
-
--- ---- an instruction that is issued, its operands as the registers are
-
-abbrev pub numberIn : List ℕ → Reg → ℕ
-numberIn rf r = getD rf (r .0) noWord
-
-abbrev pub rowFor : List ℕ → InstrAddr → Tag → Instr → Row
-rowFor rf ia t (Instr.Loadc r k) = headOf 0 0 t ia ∷ k ∷ noWord ∷ []
-rowFor rf ia t (Instr.Loadpc r) = headOf 0 0 t ia ∷ ia .0 ∷ noWord ∷ []
-rowFor rf ia t (Instr.Op r n r1 r2) = headOf 1 n t ia ∷ numberIn rf r1 ∷ numberIn rf r2 ∷ []
-rowFor rf ia t (Instr.Jz r1 r2) = headOf 2 0 noTag ia ∷ numberIn rf r1 ∷ numberIn rf r2 ∷ []
-rowFor rf ia t (Instr.Load r r1) = headOf 3 0 t ia ∷ numberIn rf r1 ∷ noWord ∷ []
-rowFor rf ia t (Instr.Store r1 r2) = headOf 4 0 noTag ia ∷ numberIn rf r1 ∷ numberIn rf r2 ∷ []

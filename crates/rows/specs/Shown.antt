@@ -1,7 +1,7 @@
 -- The templates and registers that rows and numbers show, and which rows and numbers stand for some.
 use mathlib.Core.Path.{_≡_}
-use Prim.Native.Nat.{ℕ, _≤_, _<_}
-use mathlib.Core.List.{List, [], _∷_, _++_, map}
+use Prim.Native.Nat.{ℕ, _≤_}
+use mathlib.Core.List.{List, _++_, map}
 use lib.ListN.{length, take, replicate}
 use Rattle.value.specs.Operation.{undefined}
 use Rattle.isa.specs.Instruction.{registers}

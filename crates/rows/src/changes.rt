@@ -1,15 +1,15 @@
-// Changes: a tag filled in, a template removed, finished or added, a register renamed.
+// Changes: a value filled in for a tag, a register set, a template put.
 ghost use mathlib.Core.Path.{_≡_};
-ghost use Prim.Native.Nat.{_≤_, _<_};
+ghost use Prim.Native.Nat.{_≤_};
 ghost use lib.ListN.{length};
-ghost use Rattle.rows.specs.Rows.{fillNumber, fillRow, among, mapFrom, filledBehind, without, withoutAt, numberIn, rowFor};
-ghost use Rattle.rows.specs.Answers.{Finishes, Fills, Holds, Adds};
+ghost use Rattle.rows.specs.Rows.{fillNumber, fillRow, among, mapFrom, filledBehind};
+ghost use Rattle.rows.specs.Answers.{Fills, Holds, Puts};
 use crate::codes;
-use crate::searches;
-use isa::Instr;
-use isa::InstrAddr;
+use crate::places;
 use isa::Reg;
 use isa::Tag;
+use templates::Operand;
+use templates::Template;
 use value::Value;
 
 fn filled(x: u64, tag: u64, v: u64) -> u64
@@ -34,60 +34,20 @@ fn fill_from(ts: &mut [[u64; 3]], n: usize, from: usize, tag: u64, v: u64)
 pub fn fill_behind(ts: &mut [[u64; 3]], n: usize, p: usize)
     ensures { λ _. ⌜ now (ts .exit) ≡ filledBehind n p (now (ts .entry)) ⌝ }
 {
-    let end = searches::least(n, ts.len());
+    let end = places::held(&ts[..], n);
     if p >= end {
         return;
     }
-    let row = ts[p];
-    fill_from(
-        ts,
-        end,
-        p + 1,
-        codes::FIRST_TAG + row[0] / 2048 % 256,
-        row[1],
-    );
-}
-
-fn close_gap(ts: &mut [[u64; 3]], n: usize, p: usize)
-    requires { ⌜ (p < n) × (n ≤ length (now ts)) ⌝ }
-    ensures { λ _. ⌜ now (ts .exit) ≡ among n (withoutAt p) (now (ts .entry)) ⌝ }
-{
-    let mut i = p;
-    while i + 1 < n {
-        let row = ts[i + 1];
-        ts[i] = row;
-        i += 1;
-    }
-    ts[i] = codes::BLANK;
-}
-
-// The first n templates without the one at place p: later ones move down, from the gap upward, and the freed place is blank.
-pub fn remove(ts: &mut [[u64; 3]], n: usize, p: usize)
-    ensures { λ _. ⌜ now (ts .exit) ≡ without n p (now (ts .entry)) ⌝ }
-{
-    let end = searches::least(n, ts.len());
-    if p >= end {
-        return;
-    }
-    close_gap(ts, end, p);
-}
-
-// The template at place p becomes a value template: tag and address stay.
-pub fn finish(ts: &mut [[u64; 3]], p: usize, v: Value)
-    ensures { λ _. ⌜ Finishes p v (now (ts .entry)) (now (ts .exit)) ⌝ }
-{
-    let k = codes::coded_value(v);
-    if p < ts.len() {
-        let head = ts[p][0];
-        ts[p] = [head - head % 2048, k, codes::UNDEFINED];
-    }
+    let tag = codes::waiting(places::tag(&ts[..], p));
+    let v = places::row(&ts[..], p)[1];
+    fill_from(ts, end, p + 1, tag, v);
 }
 
 // The value filled in for the tag, in every register.
 pub fn fill_registers(rf: &mut [u64], t: Tag, v: Value)
     ensures { λ _. ⌜ Fills t v (now (rf .entry)) (now (rf .exit)) ⌝ }
 {
-    let tag = codes::FIRST_TAG + t.0 as u64;
+    let tag = codes::waiting(t);
     let k = codes::coded_value(v);
     let mut i: usize = 0;
     while i < rf.len() {
@@ -96,62 +56,23 @@ pub fn fill_registers(rf: &mut [u64], t: Tag, v: Value)
     }
 }
 
-// The register holds the tag.
-pub fn hold(rf: &mut [u64], r: Reg, t: Tag)
-    ensures { λ _. ⌜ Holds r t (now (rf .entry)) (now (rf .exit)) ⌝ }
+// The register holds the operand.
+pub fn hold(rf: &mut [u64], r: Reg, o: Operand)
+    ensures { λ _. ⌜ Holds r o (now (rf .entry)) (now (rf .exit)) ⌝ }
 {
+    let k = codes::coded(o);
     let i = r.0 as usize;
     if i < rf.len() {
-        rf[i] = codes::FIRST_TAG + t.0 as u64;
+        rf[i] = k;
     }
 }
 
-fn number_in(rf: &[u64], r: Reg) -> u64
-    ensures { λ k. ⌜ k ≡ numberIn (now (rf .entry)) r ⌝ }
+// The template stands at place p.
+pub fn put(ts: &mut [[u64; 3]], p: usize, x: Template)
+    ensures { λ _. ⌜ Puts p x (now (ts .entry)) (now (ts .exit)) ⌝ }
 {
-    let i = r.0 as usize;
-    if i < rf.len() {
-        return rf[i];
-    }
-    codes::UNDEFINED
-}
-
-// The row of an instruction that is issued: its operands are the registers' present contents.
-fn row_for(rf: &[u64], ia: InstrAddr, t: Tag, i: Instr) -> [u64; 3]
-    ensures { λ r. ⌜ r ≡ rowFor (now (rf .entry)) ia t i ⌝ }
-{
-    match i {
-        Instr::Loadc(_, k) => [codes::head(0, 0, t, ia), k as u64, codes::UNDEFINED],
-        Instr::Loadpc(_) => [codes::head(0, 0, t, ia), ia.0 as u64, codes::UNDEFINED],
-        Instr::Op(_, n, r1, r2) => [
-            codes::head(1, n, t, ia),
-            number_in(rf, r1),
-            number_in(rf, r2),
-        ],
-        Instr::Jz(r1, r2) => [
-            codes::head(2, 0, Tag(0), ia),
-            number_in(rf, r1),
-            number_in(rf, r2),
-        ],
-        Instr::Load(_, r1) => [
-            codes::head(3, 0, t, ia),
-            number_in(rf, r1),
-            codes::UNDEFINED,
-        ],
-        Instr::Store(r1, r2) => [
-            codes::head(4, 0, Tag(0), ia),
-            number_in(rf, r1),
-            number_in(rf, r2),
-        ],
-    }
-}
-
-// The instruction becomes the template at place n.
-pub fn add(ts: &mut [[u64; 3]], n: usize, rf: &[u64], ia: InstrAddr, t: Tag, i: Instr)
-    ensures { λ _. ⌜ Adds n (now (rf .entry)) ia t i (now (ts .entry)) (now (ts .exit)) ⌝ }
-{
-    let row = row_for(rf, ia, t, i);
-    if n < ts.len() {
-        ts[n] = row;
+    let row = codes::row(x);
+    if p < ts.len() {
+        ts[p] = row;
     }
 }

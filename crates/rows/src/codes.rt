@@ -2,7 +2,7 @@
 ghost use mathlib.Core.Path.{_≡_};
 ghost use Prim.Native.Nat.{_<_};
 ghost use Rattle.templates.specs.Layout.{itb};
-ghost use Rattle.rows.specs.Rows.{valueOf, operandOf, headOf};
+ghost use Rattle.rows.specs.Rows.{waiting, valueOf, operandOf, headOf};
 ghost use Rattle.rows.specs.Answers.{CodesValue, Codes, CodesRow};
 use isa::InstrAddr;
 use isa::Tag;
@@ -11,14 +11,8 @@ use templates::Template;
 use templates::Work;
 use value::Value;
 
-// A word is its own number, and this one is undefined.
-pub(crate) const UNDEFINED: u64 = 4294967296;
-
 // From here on stand the tags.
-pub(crate) const FIRST_TAG: u64 = 4294967297;
-
-// The row that stands for no template.
-pub(crate) const BLANK: [u64; 3] = [0, UNDEFINED, UNDEFINED];
+const FIRST_TAG: u64 = 4294967297;
 
 // ---- coded
 
@@ -26,9 +20,15 @@ pub(crate) fn coded_value(v: Value) -> u64
     ensures { λ k. ⌜ CodesValue v k ⌝ }
 {
     match v {
-        Value::Undefined => UNDEFINED,
+        Value::Undefined => crate::UNDEFINED,
         Value::Word(w) => w as u64,
     }
+}
+
+pub(crate) fn waiting(t: Tag) -> u64
+    ensures { λ k. ⌜ k ≡ waiting t ⌝ }
+{
+    FIRST_TAG + t.0 as u64
 }
 
 pub(crate) fn coded(o: Operand) -> u64
@@ -36,7 +36,7 @@ pub(crate) fn coded(o: Operand) -> u64
 {
     match o {
         Operand::Known(v) => coded_value(v),
-        Operand::Waits(t) => FIRST_TAG + t.0 as u64,
+        Operand::Waits(t) => waiting(t),
     }
 }
 
@@ -53,11 +53,15 @@ pub(crate) fn row(x: Template) -> [u64; 3]
     let at = x.address;
     let w = x.work;
     match w {
-        Work::Done(t, v) => [head(0, 0, t, at), coded_value(v), UNDEFINED],
-        Work::Op(t, n, a, b) => [head(1, n, t, at), coded(a), coded(b)],
-        Work::Jz(a, b) => [head(2, 0, Tag(0), at), coded(a), coded(b)],
-        Work::Load(t, a) => [head(3, 0, t, at), coded(a), UNDEFINED],
-        Work::Store(a, b) => [head(4, 0, Tag(0), at), coded(a), coded(b)],
+        Work::Done(t, v) => [
+            head(crate::VALUE, 0, t, at),
+            coded_value(v),
+            crate::UNDEFINED,
+        ],
+        Work::Op(t, n, a, b) => [head(crate::OP, n, t, at), coded(a), coded(b)],
+        Work::Jz(a, b) => [head(crate::JZ, 0, Tag(0), at), coded(a), coded(b)],
+        Work::Load(t, a) => [head(crate::LOAD, 0, t, at), coded(a), crate::UNDEFINED],
+        Work::Store(a, b) => [head(crate::STORE, 0, Tag(0), at), coded(a), coded(b)],
     }
 }
 
@@ -66,7 +70,7 @@ pub(crate) fn row(x: Template) -> [u64; 3]
 pub(crate) fn value_of(k: u64) -> Value
     ensures { λ r. ⌜ r ≡ valueOf k ⌝ }
 {
-    if k < UNDEFINED {
+    if k < crate::UNDEFINED {
         return Value::Word(k as u32);
     }
     Value::Undefined
@@ -75,7 +79,7 @@ pub(crate) fn value_of(k: u64) -> Value
 pub(crate) fn operand_of(k: u64) -> Operand
     ensures { λ r. ⌜ r ≡ operandOf k ⌝ }
 {
-    if k <= UNDEFINED {
+    if k <= crate::UNDEFINED {
         return Operand::Known(value_of(k));
     }
     Operand::Waits(Tag(((k - FIRST_TAG) % 256) as u8))

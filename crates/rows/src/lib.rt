@@ -1,31 +1,33 @@
-// The working table: a row of three numbers for each template, a number for each register, lent and changed in place.
+// The coding of the working table: a row of three numbers for each template, a number for each register, lent and changed in place.
 mod changes;
 mod codes;
 mod places;
 mod searches;
-mod turns;
 
-pub use crate::changes::add;
 pub use crate::changes::fill_behind;
 pub use crate::changes::fill_registers;
-pub use crate::changes::finish;
 pub use crate::changes::hold;
-pub use crate::changes::remove;
+pub use crate::changes::put;
 pub use crate::places::address;
+pub use crate::places::contents;
 pub use crate::places::first;
+pub use crate::places::held;
 pub use crate::places::kind;
 pub use crate::places::operation;
 pub use crate::places::second;
 pub use crate::places::tag;
 pub use crate::places::value;
+pub use crate::searches::filled_from;
 pub use crate::searches::held_behind;
 pub use crate::searches::held_by_register;
 pub use crate::searches::memory_before;
 pub use crate::searches::produced;
-pub use crate::turns::numbers;
-pub use crate::turns::registers;
-pub use crate::turns::table;
-pub use crate::turns::templates;
+
+// A word is its own number, and this one is undefined.
+pub const UNDEFINED: u64 = 4294967296;
+
+// The row of no template.
+pub const BLANK: [u64; 3] = [0, UNDEFINED, UNDEFINED];
 
 // The kinds of templates.
 pub const VALUE: u8 = 0;

@@ -1,18 +1,12 @@
 // Searches: a tag is held where its number stands.
 ghost use mathlib.Core.Path.{_≡_};
-ghost use Prim.Native.Nat.{_≤_, min};
+ghost use Prim.Native.Nat.{_≤_};
 ghost use lib.ListN.{length, take, drop};
 ghost use Rattle.templates.specs.Templates.{any};
-ghost use Rattle.rows.specs.Rows.{holdsRow, heldBehind, memoryBefore, producedIn, inRegister};
+ghost use Rattle.rows.specs.Rows.{holdsRow, heldBehind, memoryBefore, producedIn, inRegister, filledFrom};
 use crate::codes;
 use crate::places;
 use isa::Tag;
-
-pub(crate) fn least(n: usize, k: usize) -> usize
-    ensures { λ r. ⌜ r ≡ min n k ⌝ }
-{
-    if n < k { n } else { k }
-}
 
 // The walk stops at the first row that has the number among its operands.
 fn held_from(ts: &[[u64; 3]], n: usize, from: usize, tag: u64) -> bool
@@ -40,11 +34,11 @@ fn held_from(ts: &[[u64; 3]], n: usize, from: usize, tag: u64) -> bool
 pub fn held_behind(ts: &[[u64; 3]], n: usize, p: usize) -> bool
     ensures { λ r. ⌜ r ≡ heldBehind n p (now (ts .entry)) ⌝ }
 {
-    let end = least(n, ts.len());
+    let end = places::held(ts, n);
     if p >= end {
         return false;
     }
-    let tag = codes::FIRST_TAG + places::head(ts, p) / 2048 % 256;
+    let tag = codes::waiting(places::tag(ts, p));
     held_from(ts, end, p + 1, tag)
 }
 
@@ -52,10 +46,10 @@ pub fn held_behind(ts: &[[u64; 3]], n: usize, p: usize) -> bool
 pub fn memory_before(ts: &[[u64; 3]], n: usize) -> bool
     ensures { λ r. ⌜ r ≡ memoryBefore n (now (ts .entry)) ⌝ }
 {
-    let end = least(n, ts.len());
+    let end = places::held(ts, n);
     let mut i: usize = 0;
     while i < end {
-        if ts[i][0] % 8 >= 3 {
+        if places::kind(ts, i) >= crate::LOAD {
             return true;
         }
         i += 1;
@@ -67,11 +61,10 @@ pub fn memory_before(ts: &[[u64; 3]], n: usize) -> bool
 pub fn produced(ts: &[[u64; 3]], n: usize, t: Tag) -> bool
     ensures { λ r. ⌜ r ≡ producedIn n t (now (ts .entry)) ⌝ }
 {
-    let end = least(n, ts.len());
-    let tag = t.0 as u64;
+    let end = places::held(ts, n);
     let mut i: usize = 0;
     while i < end {
-        if ts[i][0] / 2048 % 256 == tag {
+        if places::tag(ts, i).0 == t.0 {
             return true;
         }
         i += 1;
@@ -82,10 +75,24 @@ pub fn produced(ts: &[[u64; 3]], n: usize, t: Tag) -> bool
 pub fn held_by_register(rf: &[u64], t: Tag) -> bool
     ensures { λ r. ⌜ r ≡ inRegister t (now (rf .entry)) ⌝ }
 {
-    let tag = codes::FIRST_TAG + t.0 as u64;
+    let tag = codes::waiting(t);
     let mut i: usize = 0;
     while i < rf.len() {
         if rf[i] == tag {
+            return true;
+        }
+        i += 1;
+    }
+    false
+}
+
+// Whether a row from a place on isn't the blank.
+pub fn filled_from(ts: &[[u64; 3]], from: usize) -> bool
+    ensures { λ r. ⌜ r ≡ filledFrom from (now (ts .entry)) ⌝ }
+{
+    let mut i = from;
+    while i < ts.len() {
+        if (ts[i][0] != 0) | ((ts[i][1] != crate::UNDEFINED) | (ts[i][2] != crate::UNDEFINED)) {
             return true;
         }
         i += 1;

@@ -93,7 +93,7 @@ module _ (prog : List Instr) where
   module _ (cs : List Command) (σ : Mach) (m : List Value) where
     pub run-accepts : RanTo prog cs σ m (run prog cs σ m)
     run-accepts =
-        let f = further cs 0 0 σ m in
+        let f : Further prog cs 0 _ σ m (run prog cs σ m) = further cs 0 _ σ m in
         let all : f .more ≡ run prog cs σ m .accepted = omega (arith, f .sum) in
         record {
           within = rw (← all) (f .within);

@@ -10,4 +10,3 @@ pub mod Staying
 pub mod Due
 pub mod Oldest
 pub mod Accepted
-pub mod Judging

@@ -6,4 +6,3 @@ pub mod Drain
 pub mod Moves
 pub mod Schedules
 pub mod OldestFirst
-pub mod Judge

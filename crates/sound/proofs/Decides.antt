@@ -121,7 +121,7 @@ blank-work (Jz x y) e = absurd (false≢true e)
 blank-work (Load t x) e = absurd (false≢true e)
 blank-work (Store x y) e = absurd (false≢true e)
 
-is-blank : (x : Template) → isBlank x ≡ true → x ≡ blank
+pub is-blank : (x : Template) → isBlank x ≡ true → x ≡ blank
 is-blank x e =
     let h = and-eq-true-iff _ (blankWork (x .work)) .0 e in
     λ i. record { address = record { 0 = eqb-true (x .address .0) 0 (h .0) i }; work = blank-work (x .work) (h .1) i }

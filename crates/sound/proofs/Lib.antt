@@ -6,3 +6,4 @@ pub mod LastJz
 pub mod Basics
 pub mod Soundness
 pub mod Decides
+pub mod Turned

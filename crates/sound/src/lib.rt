@@ -1,27 +1,25 @@
-// Soundness of a state, decided.
+// Soundness of a state, decided on the working table.
 ghost use mathlib.Core.Path.{_≡_};
 ghost use Prim.Native.Nat.{_≤_};
 ghost use mathlib.Core.Bool.{true};
-ghost use lib.ListN.{take, drop};
+ghost use lib.ListN.{length, drop};
 ghost use Rattle.templates.specs.Templates.{anyReg};
-ghost use Rattle.templates.specs.Machine.{lastTag};
-ghost use Rattle.templates.specs.Layout.{places, itb, itbs};
-ghost use Rattle.sound.specs.Sound.{also, after, isNew, isReady, workOk, templateOk, isAlone, registersOk, isJz, counterOk, blankWork, allBlank, isSound};
-ghost use Rattle.sound.specs.Search.{told, Checks, firstJz};
+ghost use Rattle.templates.specs.Machine.{lastTag, room};
+ghost use Rattle.templates.specs.Layout.{itb};
+ghost use Rattle.rows.specs.Shown.{heldOf, regsOf};
+ghost use Rattle.sound.specs.Sound.{also, after, isNew, isReady, workOk, templateOk, isAlone, registersOk, isJz, counterOk, isSound};
+ghost use Rattle.sound.specs.Search.{told, Checks, firstJz, soundOn};
 use isa::LAST_OPERATION;
-use isa::REGISTERS;
 use isa::Tag;
 use templates::Counter;
 use templates::LAST_TAG;
 use templates::Operand;
 use templates::PLACES;
 use templates::ROOM;
-use templates::Register;
 use templates::State;
 use templates::TAGS;
 use templates::Template;
 use templates::Work;
-use value::Value;
 
 // What a walk of the templates found: whether they are in order, and which of the tags have a producer if they are.
 struct Checked {
@@ -101,14 +99,14 @@ fn template_ok(made: [bool; TAGS], x: Template, instructions: u32) -> bool
     (x.address.0 < instructions) & work_ok(made, w)
 }
 
-fn templates_ok(ts: [Template; PLACES], n: usize, instructions: u32) -> Checked
-    requires { ⌜ n ≤ places ⌝ }
-    ensures { λ r. ⌜ Checks instructions (itbs (take n ts)) r ⌝ }
+fn templates_ok(ts: &[[u64; 3]], n: usize, instructions: u32) -> Checked
+    requires { ⌜ n ≤ length (now ts) ⌝ }
+    ensures { λ r. ⌜ Checks instructions (heldOf n (now (ts .entry))) r ⌝ }
 {
     let mut made = [false; TAGS];
     let mut i: usize = 0;
     while i < n {
-        let x = ts[i];
+        let x = table::template(ts, i);
         if !template_ok(made, x, instructions) {
             return Checked {
                 ok: false,
@@ -129,8 +127,8 @@ fn templates_ok(ts: [Template; PLACES], n: usize, instructions: u32) -> Checked
 // ---- registers
 
 // Whether no register from a number on holds the operand's tag.
-fn is_alone(rf: [Register; REGISTERS], from: usize, o: Operand) -> bool
-    ensures { λ r. ⌜ r ≡ isAlone o (drop from rf) ⌝ }
+fn is_alone(rf: &[u64], from: usize, o: Operand) -> bool
+    ensures { λ r. ⌜ r ≡ isAlone o (drop from (regsOf (now (rf .entry)))) ⌝ }
 {
     match o {
         Operand::Known(_) => true,
@@ -138,41 +136,35 @@ fn is_alone(rf: [Register; REGISTERS], from: usize, o: Operand) -> bool
     }
 }
 
-fn tag_from(rf: [Register; REGISTERS], from: usize, t: Tag) -> bool
-    ensures { λ r. ⌜ r ≡ anyReg t (drop from rf) ⌝ }
+fn tag_from(rf: &[u64], from: usize, t: Tag) -> bool
+    ensures { λ r. ⌜ r ≡ anyReg t (drop from (regsOf (now (rf .entry)))) ⌝ }
 {
     let mut i = from;
-    loop {
-        if i >= REGISTERS {
-            break false;
-        }
-        let x = rf[i];
-        let o = x.holds;
+    while i < rf.len() {
+        let o = rows::contents(rf, i);
         if templates::leaf::waits_for(o, t) {
-            break true;
+            return true;
         }
         i += 1;
     }
+    false
 }
 
-fn registers_ok(rf: [Register; REGISTERS], made: [bool; TAGS]) -> bool
-    ensures { λ r. ⌜ r ≡ registersOk (told made) rf ⌝ }
+fn registers_ok(rf: &[u64], made: [bool; TAGS]) -> bool
+    ensures { λ r. ⌜ r ≡ registersOk (told made) (regsOf (now (rf .entry))) ⌝ }
 {
     let mut i: usize = 0;
-    loop {
-        if i >= REGISTERS {
-            break true;
-        }
-        let x = rf[i];
-        let o = x.holds;
+    while i < rf.len() {
+        let o = rows::contents(rf, i);
         if !is_ready(made, o) {
-            break false;
+            return false;
         }
         if !is_alone(rf, i + 1, o) {
-            break false;
+            return false;
         }
         i += 1;
     }
+    true
 }
 
 // ---- counter
@@ -190,27 +182,25 @@ fn is_jz(w: Work) -> bool
 }
 
 // The place of the first Jz among the first n templates, or n.
-fn first_jz(ts: [Template; PLACES], n: usize) -> usize
-    requires { ⌜ n ≤ places ⌝ }
-    ensures { λ r. ⌜ r ≡ firstJz (itbs (take n ts)) ⌝ }
+fn first_jz(ts: &[[u64; 3]], n: usize) -> usize
+    requires { ⌜ n ≤ length (now ts) ⌝ }
+    ensures { λ r. ⌜ r ≡ firstJz (heldOf n (now (ts .entry))) ⌝ }
 {
     let mut i: usize = 0;
-    loop {
-        if i >= n {
-            break i;
-        }
-        let x = ts[i];
+    while i < n {
+        let x = table::template(ts, i);
         let w = x.work;
         if is_jz(w) {
-            break i;
+            return i;
         }
         i += 1;
     }
+    i
 }
 
-fn counter_ok(c: Counter, ts: [Template; PLACES], n: usize) -> bool
-    requires { ⌜ n ≤ places ⌝ }
-    ensures { λ r. ⌜ r ≡ counterOk c (itbs (take n ts)) ⌝ }
+fn counter_ok(c: Counter, ts: &[[u64; 3]], n: usize) -> bool
+    requires { ⌜ (n ≤ room) × (n ≤ length (now ts)) ⌝ }
+    ensures { λ r. ⌜ r ≡ counterOk c (heldOf n (now (ts .entry))) ⌝ }
 {
     let at = first_jz(ts, n);
     match c {
@@ -219,57 +209,19 @@ fn counter_ok(c: Counter, ts: [Template; PLACES], n: usize) -> bool
     }
 }
 
-// ---- blanks
-
-fn blank_work(w: Work) -> bool
-    ensures { λ r. ⌜ r ≡ blankWork w ⌝ }
-{
-    match w {
-        Work::Done(t, v) => match v {
-            Value::Undefined => t.0 == 0,
-            Value::Word(_) => false,
-        },
-        Work::Op(_, _, _, _) => false,
-        Work::Jz(_, _) => false,
-        Work::Load(_, _) => false,
-        Work::Store(_, _) => false,
-    }
-}
-
-fn all_blank(ts: [Template; PLACES], from: usize) -> bool
-    ensures { λ r. ⌜ r ≡ allBlank (drop from ts) ⌝ }
-{
-    let mut i = from;
-    loop {
-        if i >= PLACES {
-            break true;
-        }
-        let x = ts[i];
-        if x.address.0 != 0 {
-            break false;
-        }
-        let w = x.work;
-        if !blank_work(w) {
-            break false;
-        }
-        i += 1;
-    }
-}
-
 // ---- the whole
 
-// Whether the state is sound for a program of so many instructions.
-pub fn is_sound(s: State, instructions: u32) -> bool
-    ensures { λ r. ⌜ r ≡ isSound instructions s ⌝ }
+// Whether n rows and the registers show a machine that is sound for a program of so many instructions, and the other rows are blank.
+pub fn sound_on(ts: &[[u64; 3]], rf: &[u64], c: Counter, n: usize, instructions: u32) -> bool
+    ensures { λ r. ⌜ r ≡ soundOn instructions c n (now (ts .entry)) (now (rf .entry)) ⌝ }
 {
-    let n = s.count;
     if n > ROOM {
         return false;
     }
-    let ts = s.templates;
-    let rf = s.registers;
-    let c = s.counter;
-    if !all_blank(ts, n) {
+    if n > ts.len() {
+        return false;
+    }
+    if rows::filled_from(ts, n) {
         return false;
     }
     let checked = templates_ok(ts, n, instructions);
@@ -281,4 +233,21 @@ pub fn is_sound(s: State, instructions: u32) -> bool
         return false;
     }
     counter_ok(c, ts, n)
+}
+
+// Whether the state is sound for a program of so many instructions.
+pub fn is_sound(s: State, instructions: u32) -> bool
+    ensures { λ r. ⌜ r ≡ isSound instructions s ⌝ }
+{
+    let registers = s.registers;
+    let rf = table::numbers(registers);
+    let mut ts = [rows::BLANK; PLACES];
+    let mut i: usize = 0;
+    while i < PLACES {
+        let x = s.templates[i];
+        rows::put(&mut ts, i, x);
+        i += 1;
+    }
+    let c = s.counter;
+    sound_on(&ts, &rf, c, s.count, instructions)
 }

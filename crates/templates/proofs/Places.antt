@@ -3,7 +3,7 @@ use mathlib.Core.Path.{_≡_, refl, sym, ap, ap₂, _∙_}
 use Prim.Native.Nat.{ℕ, _-_, _≤_}
 use native.Mathlib.Omega.{arith}
 use mathlib.Core.List.{List, [], _∷_, map}
-use lib.ListN.{length, take, drop, replicate, length-append, length-map, length-replicate, take-append-drop}
+use lib.ListN.{length, take, drop, replicate, length-map, take-append-drop}
 use lib.Seq.{length-take-le, take-append-seam, drop-append-seam}
 use Rattle.templates.specs.declared.Counter.{Counter}
 use Rattle.templates.specs.declared.Template.{Template}
@@ -13,9 +13,6 @@ use Rattle.templates.specs.Machine.{Itb, Mach, mach}
 use Rattle.templates.specs.Layout.{places, template, itb, blank, itbs, lay, machOf, stateOf, Laid}
 
 -- ---- the layout of a list
-
-pub lay-length : (xs : List Itb) → length xs ≤ places → length (lay xs) ≡ places
-lay-length xs h = simp (length-append, length-map, length-replicate) (omega arith)
 
 itbs-template : (xs : List Itb) → itbs (map template xs) ≡ xs
 itbs-template [] = refl
@@ -32,9 +29,6 @@ lay-back xs = ap (λ (n : ℕ). drop n (lay xs)) (sym (length-map xs template)) 
 
 pub machOf-stateOf : (σ : Mach) → machOf (stateOf σ) ≡ σ
 machOf-stateOf σ = ap (mach (σ .counter) (σ .registers)) (ap itbs (lay-front (σ .held)) ∙ itbs-template (σ .held))
-
-pub stateOf-laid : (σ : Mach) → length (σ .held) ≤ places → Laid (stateOf σ)
-stateOf-laid σ h = record { within = h; whole = sym (ap stateOf (machOf-stateOf σ)) }
 
 abbrev pub placed : Counter → List Register → List Template → ℕ → State
 placed c rf ts n = record { counter = c; registers = rf; templates = ts; count = n }

@@ -1,4 +1,5 @@
 -- `report::put_run` meets its contract.
+use Rattle.report.specs.Report.{endText, contentsText}
 use native.Mathlib.Omega.{arith}
 use Rattle.report.proofs.Telling.{run-told}
 use borrow.Author.Needs.{needs}
@@ -21,7 +22,7 @@ put-end-requires : tie.Need-put-end-requires
 put-end-requires c κs = search needs
 
 put-contents-requires : tie.Need-put-contents-requires
-put-contents-requires c κs = omega (arith, c .before .before .before .before .before .before .before .before .before .before .before .before .before .before .before .before .before .before .before .before .before .before .before .before .before .pre, c .before .before .before .before .before .before .before .before .before .before .before .before .before .before .before .before .before .before .run .kept .1 .1 .0, c .before .before .before .before .before .before .before .before .before .before .before .before .before .drain .kept .1 .1 .0)
+put-contents-requires c κs = omega (arith, c .before .before .before .before .before .before .before .before .before .before .before .before .before .before .before .before .before .before .before .before .before .before .before .before .before .before .before .pre, c .before .before .before .before .before .before .before .before .before .before .before .before .before .before .before .before .before .before .before .before .run .kept .1 .1 .0, c .before .before .before .before .before .before .before .before .before .before .before .before .before .before .before .drain .kept .1 .1 .0)
 
 same-length : tie.Need-same-length
 same-length c = search needs
@@ -30,7 +31,8 @@ same-length-2 : tie.Need-same-length-2
 same-length-2 c = search needs
 
 returns : tie.Need-returns
-returns c = run-told (c .before .before .before .before .before .before .before .before .before .before .before .before .before .before .before .before .before .before .before .before .before .before .before .start .ensures) (c .before .before .before .before .before .before .before .before .before .before .before .before .before .before .before .before .before .before .before .before .before .run .ensures) (c .before .before .before .before .before .before .before .before .before .before .before .before .before .before .before .before .drain .ensures) (c .before .before .before .before .before .before .before .before .before .before .before .before .put-ran .ensures) (c .before .before .before .before .before .before .before .before .put-end .ensures) (c .before .before .put-contents .ensures)
+unfolding endText contentsText
+returns c = run-told (c .before .before .before .before .before .before .before .before .before .before .before .before .before .before .before .before .before .before .before .before .before .before .before .before .before .start .ensures) (c .before .before .before .before .before .before .before .before .before .before .before .before .before .before .before .before .before .before .before .before .before .before .before .run .ensures) (c .before .before .before .before .before .before .before .before .before .before .before .before .before .before .before .before .before .before .drain .ensures) (c .before .before .before .before .before .before .before .before .before .before .before .before .before .before .put-ran .ensures) (c .before .before .before .before .before .before .before .before .put-end .ensures) (c .before .before .put-contents .ensures)
 
 pub put-run-spec : {M : Type 1} → statement M
 put-run-spec =

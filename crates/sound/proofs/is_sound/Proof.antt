@@ -1,79 +1,84 @@
 -- `sound::is_sound` meets its contract.
-use mathlib.Core.Path.{_≡_, sym, ap, _∙_}
-use Prim.Native.Nat.{ℕ, _≤_}
+use mathlib.Core.Path.{_≡_, refl, _∙_}
+use Prim.Native.Nat.{_-_, _≤_}
 use native.Mathlib.Omega.{arith}
-use mathlib.Core.Bool.{_&&_}
-use lib.ListN.{length, take, drop, length-take, length-map}
-use borrow.Author.Tests.{le-leb, lt-leb, not-true, not-false}
-use Rattle.templates.specs.declared.State.{State}
-use Rattle.templates.specs.Machine.{room}
-use Rattle.templates.specs.Layout.{itb, machOf}
-use Rattle.sound.specs.Sound.{Produced, none, afterAll, allBlank, templatesOk, registersOk, counterOk, isSound, soundMach}
+use lib.ListN.{length, take}
 use borrow.Author.Needs.{needs}
+use Rattle.templates.specs.Layout.{places, itbs}
+use Rattle.rows.proofs.Showing.{Shows, shows-none, turned-more, turned-whole}
+use Rattle.rows.proofs.Typed.{full}
+use Rattle.sound.proofs.Turned.{sound-turned}
 use Rattle.sound.proofs.is_sound.Statement.{statement}
 use Rattle.sound.proofs.is_sound.Tie as tie
 
--- the tests that are left of a state with few templates, in the code's order
-tests : (k : ℕ) (s : State) → s .count ≤ room
-    → isSound k s ≡ (allBlank (drop (s .count) (s .templates)) && (templatesOk k none (machOf s .held) && (registersOk (afterAll (machOf s .held) none) (s .registers) && counterOk (s .counter) (machOf s .held))))
-unfolding isSound soundMach
-tests k s h =
-    let few : length (machOf s .held) ≤ room = omega (arith, length-take (s .count) (s .templates), length-map (take (s .count) (s .templates)) itb) in
-    rw (le-leb _ _ h, le-leb _ _ few)
+abbrev Inv-loop : tie.InvT-loop
+Inv-loop instructions s rf ts₀ i₀ ts i = Shows i ts (itbs (take i (s .templates))) × (length ts ≡ places) × (i ≤ places)
 
-returns : tie.Need-returns
-unfolding isSound
-returns c = rw (lt-leb _ _ (c .if1 .taken))
+abbrev μ-loop : tie.MeasureT-loop
+μ-loop instructions s rf ts₀ i₀ ts i = 64 - i
 
-all-blank-requires : tie.Need-all-blank-requires
-all-blank-requires c κs = search needs
+numbers-requires : tie.Need-numbers-requires Inv-loop μ-loop
+numbers-requires c κs = search needs
 
-returns-2 : tie.Need-returns-2
-returns-2 c =
-    let blank = sym (c .before .all-blank .ensures) ∙ not-true _ (c .if2 .taken) in
-    rw (tests _ (c .before .before .before .before .before .args .s) (c .before .before .before .before .if1 .left), blank)
+loop-holds : tie.Need-loop-holds Inv-loop μ-loop
+loop-holds c = (shows-none _, refl, omega arith)
 
-templates-ok-requires : tie.Need-templates-ok-requires
-templates-ok-requires c κs = search needs
+mul-x : tie.Need-mul-x Inv-loop μ-loop
+mul-x c = omega (arith, c .loop-test .taken)
 
-returns-3 : tie.Need-returns-3
-returns-3 c =
-    let blank = sym (c .before .before .before .before .all-blank .ensures) ∙ not-false _ (c .before .before .before .if2 .left) in
-    let ts = sym (c .before .before .templates-ok .ensures .verdict) ∙ not-true _ (c .if3 .taken) in
-    rw (tests _ (c .before .before .before .before .before .before .before .before .args .s) (c .before .before .before .before .before .before .before .if1 .left), blank, ts)
+element-copy-out-x : tie.Need-element-copy-out-x Inv-loop μ-loop
+element-copy-out-x c = omega (arith, c .loop-test .taken, full (c .before .before .before .before .args .t1) (c .before .before .before .before .good .0))
 
-registers-ok-requires : tie.Need-registers-ok-requires
-registers-ok-requires c κs = search needs
+slice-aggregate-put : tie.Need-slice-aggregate-put Inv-loop μ-loop
+slice-aggregate-put c = search needs
 
-returns-4 : tie.Need-returns-4
-returns-4 c =
-    let blank = sym (c .before .before .before .before .before .before .before .all-blank .ensures) ∙ not-false _ (c .before .before .before .before .before .before .if2 .left) in
-    let checked = c .before .before .before .before .before .templates-ok .ensures in
-    let fine = not-false _ (c .before .before .before .if3 .left) in
-    let rf = sym (ap (λ (made : Produced). registersOk made (c .before .before .before .before .before .before .before .before .before .before .before .args .s .registers)) (checked .tags fine)) ∙ sym (c .before .registers-ok .ensures) ∙ not-true _ (c .if4 .taken) in
-    rw (tests _ (c .before .before .before .before .before .before .before .before .before .before .before .args .s) (c .before .before .before .before .before .before .before .before .before .before .if1 .left), blank, sym (checked .verdict) ∙ fine, rf)
+put-requires : tie.Need-put-requires Inv-loop μ-loop
+put-requires c κs = search needs
 
-counter-ok-requires : tie.Need-counter-ok-requires
-counter-ok-requires c κs = search needs
+add-i : tie.Need-add-i Inv-loop μ-loop
+add-i c = omega (arith, c .before .before .before .before .loop-test .taken)
 
-returns-5 : tie.Need-returns-5
-returns-5 c =
-    let blank = sym (c .before .before .before .before .before .before .before .before .all-blank .ensures) ∙ not-false _ (c .before .before .before .before .before .before .before .if2 .left) in
-    let checked = c .before .before .before .before .before .before .templates-ok .ensures in
-    let fine = not-false _ (c .before .before .before .before .if3 .left) in
-    let rf = sym (ap (λ (made : Produced). registersOk made (c .before .before .before .before .before .before .before .before .before .before .before .before .args .s .registers)) (checked .tags fine)) ∙ sym (c .before .before .registers-ok .ensures) ∙ not-false _ (c .before .if4 .left) in
-    rw (tests _ (c .before .before .before .before .before .before .before .before .before .before .before .before .args .s) (c .before .before .before .before .before .before .before .before .before .before .before .if1 .left), blank, sym (checked .verdict) ∙ fine, rf) (c .counter-ok .ensures)
+loop-less : tie.Need-loop-less Inv-loop μ-loop
+loop-less c = omega (arith, c .before .before .before .before .loop-test .taken)
+
+loop-again : tie.Need-loop-again Inv-loop μ-loop
+loop-again c = (
+  turned-more (c .before .before .before .before .before .before .before .before .args .t1 .templates) (c .before .before .before .before .before .loop .inv .0) (omega (arith, c .before .before .before .before .before .loop .inv .1, c .before .before .before .before .loop-test .taken)) (omega (arith, full (c .before .before .before .before .before .before .before .before .args .t1) (c .before .before .before .before .before .before .before .before .good .0), c .before .before .before .before .loop-test .taken)) (c .before .put .ensures),
+  c .before .put .kept .0 ∙ c .before .before .before .before .before .loop .inv .1,
+  omega (arith, c .before .before .before .before .loop-test .taken),
+)
+
+slice-aggregate-sound-on : tie.Need-slice-aggregate-sound-on Inv-loop μ-loop
+slice-aggregate-sound-on c = search needs
+
+slice-aggregate-sound-on-2 : tie.Need-slice-aggregate-sound-on-2 Inv-loop μ-loop
+slice-aggregate-sound-on-2 c = search needs
+
+sound-on-requires : tie.Need-sound-on-requires Inv-loop μ-loop
+sound-on-requires c κs = search needs
+
+returns : tie.Need-returns Inv-loop μ-loop
+returns c =
+    let s = c .before .before .before .before .before .before .before .args .t1 in
+    let end : c .before .before .before .before .loop .i ≡ places = omega (arith, c .before .before .before .loop-test .left, c .before .before .before .before .loop .inv .2) in
+    sound-turned s (c .before .before .before .before .loop .inv .1) (turned-whole (s .templates) (full s (c .before .before .before .before .before .before .before .good .0)) (c .before .before .before .before .loop .inv .0) end) (c .before .before .before .before .before .numbers .ensures) (c .before .before .before .before .before .before .before .args .instructions) (c .sound-on .ensures)
 
 pub is-sound-spec : {M : Type 1} → statement M
 is-sound-spec =
     tie.close
     (tie.spec
-    returns
-    all-blank-requires
-    returns-2
-    templates-ok-requires
-    returns-3
-    registers-ok-requires
-    returns-4
-    counter-ok-requires
-    returns-5)
+    Inv-loop
+    μ-loop
+    numbers-requires
+    loop-holds
+    mul-x
+    element-copy-out-x
+    slice-aggregate-put
+    put-requires
+    add-i
+    loop-less
+    loop-again
+    slice-aggregate-sound-on
+    slice-aggregate-sound-on-2
+    sound-on-requires
+    returns)

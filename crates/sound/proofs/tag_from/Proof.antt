@@ -1,49 +1,52 @@
 -- `sound::tag_from` meets its contract.
-use mathlib.Core.Path.{_≡_, sym, ap, _∙_}
+use mathlib.Core.Path.{sym, ap, _∙_}
 use Prim.Native.Nat.{_-_}
 use native.Mathlib.Omega.{arith}
-use lib.ListN.{length, drop}
+use lib.ListN.{length, drop, length-map}
 use lib.Seq.{take-all}
 use borrow.Author.Needs.{needs}
-use Rattle.templates.specs.Templates.{waits, anyReg}
+use Rattle.value.specs.Operation.{undefined}
+use Rattle.templates.specs.declared.Operand.the-variants.{Known}
+use Rattle.templates.specs.declared.Register.{Register}
+use Rattle.templates.specs.Templates.{waits, anyReg, register}
 use Rattle.templates.proofs.Seeking.{Seeking, seek-on, seek-hit, seek-end}
+use Rattle.rows.specs.Shown.{regsOf}
+use Rattle.rows.proofs.Showing.{register-shown}
+use Rattle.rows.specs.Rows.{operandOf}
 use Rattle.sound.proofs.tag_from.Statement.{statement}
 use Rattle.sound.proofs.tag_from.Tie as tie
 
 abbrev Inv-loop : tie.InvT-loop
-Inv-loop from t rf i₀ i = Seeking (λ x. waits t (x .holds)) 32 32 rf i (anyReg t (drop from rf))
+Inv-loop rf from t i₀ i = Seeking (λ x. waits t (x .holds)) (length rf) (length rf) (regsOf rf) i (anyReg t (drop from (regsOf rf)))
 
 abbrev μ-loop : tie.MeasureT-loop
-μ-loop from t rf i₀ i = 32 - i
+μ-loop rf from t i₀ i = length rf - i
 
 loop-holds : tie.Need-loop-holds Inv-loop μ-loop
 loop-holds c =
-    let n : length (c .args .t1) ≡ 32 = search needs in
-    record { long = n; left = ap (λ l. anyReg (c .args .t) (drop (c .args .from) l)) (take-all 32 (c .args .t1) (omega arith)) }
+    let rf = c .before .args .rf .now in
+    record { long = length-map rf _; left = ap (λ l. anyReg (c .before .args .t) (drop (c .before .args .from) l)) (take-all (length rf) (regsOf rf) (omega (arith, length-map rf (λ k. register (operandOf k))))) }
 
-mul-x : tie.Need-mul-x Inv-loop μ-loop
-mul-x c = omega arith
-
-array-copy-out-x : tie.Need-array-copy-out-x Inv-loop μ-loop
-array-copy-out-x c = omega arith
+contents-requires : tie.Need-contents-requires Inv-loop μ-loop
+contents-requires c κs = search needs
 
 waits-for-requires : tie.Need-waits-for-requires Inv-loop μ-loop
 waits-for-requires c κs = search needs
 
+returns : tie.Need-returns Inv-loop μ-loop
+returns c = seek-hit (c .before .before .before .before .loop .inv) (register (Known undefined)) (omega (arith, c .before .before .before .loop-test .taken)) (ap (λ (x : Register). waits (c .before .before .before .before .before .before .args .t) (x .holds)) (register-shown (c .before .before .before .before .before .before .args .rf .now) (c .before .before .before .before .loop .i)) ∙ ap (waits (c .before .before .before .before .before .before .args .t)) (sym (c .before .before .contents .ensures)) ∙ sym (c .before .waits-for .ensures) ∙ c .if1 .taken)
+
 add-i : tie.Need-add-i Inv-loop μ-loop
-add-i c = omega arith
+add-i c = omega (arith, c .before .before .before .loop-test .taken, c .before .before .before .before .before .before .good)
 
 loop-less : tie.Need-loop-less Inv-loop μ-loop
-loop-less c = omega arith
+loop-less c = omega (arith, c .before .before .before .loop-test .taken, c .before .before .before .before .before .before .good)
 
 loop-again : tie.Need-loop-again Inv-loop μ-loop
-loop-again c = seek-on (c .before .before .before .before .loop .inv) _ (omega arith) (sym (c .before .waits-for .ensures) ∙ c .if2 .left)
-
-returns : tie.Need-returns Inv-loop μ-loop
-returns c = seek-end (c .before .loop .inv) (omega arith)
+loop-again c = seek-on (c .before .before .before .before .loop .inv) (register (Known undefined)) (omega (arith, c .before .before .before .loop-test .taken)) (ap (λ (x : Register). waits (c .before .before .before .before .before .before .args .t) (x .holds)) (register-shown (c .before .before .before .before .before .before .args .rf .now) (c .before .before .before .before .loop .i)) ∙ ap (waits (c .before .before .before .before .before .before .args .t)) (sym (c .before .before .contents .ensures)) ∙ sym (c .before .waits-for .ensures) ∙ c .if1 .left)
 
 returns-2 : tie.Need-returns-2 Inv-loop μ-loop
-returns-2 c = seek-hit (c .before .before .before .before .loop .inv) _ (omega arith) (sym (c .before .waits-for .ensures) ∙ c .if2 .taken)
+returns-2 c = seek-end (c .before .loop .inv) (omega (arith, c .loop-test .left))
 
 pub tag-from-spec : {M : Type 1} → statement M
 tag-from-spec =
@@ -52,11 +55,10 @@ tag-from-spec =
     Inv-loop
     μ-loop
     loop-holds
-    mul-x
-    array-copy-out-x
+    contents-requires
     waits-for-requires
+    returns
     add-i
     loop-less
     loop-again
-    returns
     returns-2)

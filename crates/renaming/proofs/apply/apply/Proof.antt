@@ -1,5 +1,5 @@
 -- `renaming::apply::apply` meets its contract.
-use Rattle.renaming.specs.Working.{Stands, shows}
+use Rattle.renaming.specs.Working.{shows}
 use Rattle.rules.specs.declared.Rule.the-variants as Rule
 use Rattle.rules.specs.Rules.{apply}
 use mathlib.Core.Path.{refl}

@@ -23,8 +23,11 @@ same-length c = search needs
 returns-2 : tie.Need-returns-2
 returns-2 c = bad-tag (c .before .before .before .before .before .before .pre .0) (c .before .before .before .before .before .before .pre .1) (c .before .before .before .before .before .before .args .c) (c .before .before .before .before .before .before .args .t) (c .before .before .before .before .before .before .args .ia) (c .before .before .before .before .before .before .args .i) (c .before .before .before .before .if1 .left) (ap (λ (f : Bool). tagSuits f (c .before .before .before .before .before .before .args .t) (c .before .before .before .before .before .before .args .i)) (sym (c .before .before .is-fresh .ensures)) ∙ sym (c .before .tag-suits .ensures) ∙ not-true (c .before .tag-suits .result) (c .if2 .taken))
 
-add-requires : tie.Need-add-requires
-add-requires c κs = search needs
+work-for-requires : tie.Need-work-for-requires
+work-for-requires c κs = search needs
+
+put-requires : tie.Need-put-requires
+put-requires c κs = search needs
 
 rename-requires : tie.Need-rename-requires
 rename-requires c κs = search needs
@@ -32,8 +35,8 @@ rename-requires c κs = search needs
 counter-after-requires : tie.Need-counter-after-requires
 counter-after-requires c κs = search needs
 
-add-t21 : tie.Need-add-t21
-add-t21 c = search needs
+add-t23 : tie.Need-add-t23
+add-t23 c = search needs
 
 same-length-2 : tie.Need-same-length-2
 same-length-2 c = search needs
@@ -42,7 +45,7 @@ same-length-3 : tie.Need-same-length-3
 same-length-3 c = search needs
 
 returns-3 : tie.Need-returns-3
-returns-3 c = issues (c .before .before .before .before .before .before .before .before .before .before .before .before .before .before .before .pre .0) (c .before .before .before .before .before .before .before .before .before .before .before .before .before .before .before .pre .1) (c .before .before .before .before .before .before .before .before .before .before .before .before .before .before .before .args .c) (c .before .before .before .before .before .before .before .before .before .before .before .before .before .before .before .args .t) (c .before .before .before .before .before .before .before .before .before .before .before .before .before .before .before .args .ia) (c .before .before .before .before .before .before .before .before .before .before .before .before .before .before .before .args .i) (c .before .before .before .before .before .before .before .before .before .before .before .before .before .if1 .left) (ap (λ (f : Bool). tagSuits f (c .before .before .before .before .before .before .before .before .before .before .before .before .before .before .before .args .t) (c .before .before .before .before .before .before .before .before .before .before .before .before .before .before .before .args .i)) (sym (c .before .before .before .before .before .before .before .before .before .before .before .is-fresh .ensures)) ∙ sym (c .before .before .before .before .before .before .before .before .before .before .tag-suits .ensures) ∙ not-false (c .before .before .before .before .before .before .before .before .before .before .tag-suits .result) (c .before .before .before .before .before .before .before .before .before .if2 .left)) (c .before .before .before .before .before .before .add .ensures) (c .before .before .before .rename .ensures) (c .counter-after .ensures)
+returns-3 c = issues (c .before .before .before .before .before .before .before .before .before .before .before .before .before .before .before .before .pre .0) (c .before .before .before .before .before .before .before .before .before .before .before .before .before .before .before .before .pre .1) (c .before .before .before .before .before .before .before .before .before .before .before .before .before .before .before .before .args .c) (c .before .before .before .before .before .before .before .before .before .before .before .before .before .before .before .before .args .t) (c .before .before .before .before .before .before .before .before .before .before .before .before .before .before .before .before .args .ia) (c .before .before .before .before .before .before .before .before .before .before .before .before .before .before .before .before .args .i) (c .before .before .before .before .before .before .before .before .before .before .before .before .before .before .if1 .left) (ap (λ (f : Bool). tagSuits f (c .before .before .before .before .before .before .before .before .before .before .before .before .before .before .before .before .args .t) (c .before .before .before .before .before .before .before .before .before .before .before .before .before .before .before .before .args .i)) (sym (c .before .before .before .before .before .before .before .before .before .before .before .before .is-fresh .ensures)) ∙ sym (c .before .before .before .before .before .before .before .before .before .before .before .tag-suits .ensures) ∙ not-false (c .before .before .before .before .before .before .before .before .before .before .before .tag-suits .result) (c .before .before .before .before .before .before .before .before .before .before .if2 .left)) (c .before .before .before .before .before .before .before .before .work-for .ensures) (c .before .before .before .before .before .before .put .ensures) (c .before .before .before .rename .ensures) (c .counter-after .ensures)
 
 pub issue-at-spec : {M : Type 1} → statement M
 issue-at-spec =
@@ -53,10 +56,11 @@ issue-at-spec =
     tag-suits-requires
     same-length
     returns-2
-    add-requires
+    work-for-requires
+    put-requires
     rename-requires
     counter-after-requires
-    add-t21
+    add-t23
     same-length-2
     same-length-3
     returns-3)

@@ -1,6 +1,5 @@
 -- `report::putting::put_contents` meets its contract.
 use Rattle.lines.proofs.Putting.{then}
-use Rattle.report.specs.Report.{contentsText}
 use borrow.Author.Needs.{needs}
 use Rattle.report.proofs.putting.put_contents.Statement.{statement}
 use Rattle.report.proofs.putting.put_contents.Tie as tie
@@ -18,8 +17,7 @@ same-length : tie.Need-same-length
 same-length c = search needs
 
 returns : tie.Need-returns
-unfolding contentsText
-returns c = then (c .before .before .before .before .before .before .before .before .before .before .before .put-counter .ensures) (then (c .before .before .before .before .before .before .put-registers .ensures) (c .before .before .put-cells .ensures))
+returns c = then (c .before .before .before .before .before .before .before .before .before .before .put-counter .ensures) (then (c .before .before .before .before .before .before .put-registers .ensures) (c .before .before .put-cells .ensures))
 
 pub put-contents-spec : {M : Type 1} → statement M
 put-contents-spec =

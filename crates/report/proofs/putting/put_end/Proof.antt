@@ -2,7 +2,6 @@
 use native.Mathlib.Omega.{arith}
 use borrow.Author.Tests.{eq-eqb, ne-eqb}
 use Rattle.lines.proofs.Putting.{in-at-most}
-use Rattle.report.specs.Report.{endText}
 use borrow.Author.Needs.{needs}
 use Rattle.report.proofs.putting.put_end.Statement.{statement}
 use Rattle.report.proofs.putting.put_end.Tie as tie
@@ -14,7 +13,6 @@ same-length : tie.Need-same-length
 same-length c = search needs
 
 returns : tie.Need-returns
-unfolding endText
 returns c = rw (eq-eqb _ 0 (c .before .before .before .before .if1 .taken)) (in-at-most (c .before .before .put-drained .ensures) (omega arith))
 
 put-blocked-requires : tie.Need-put-blocked-requires
@@ -24,8 +22,7 @@ same-length-2 : tie.Need-same-length-2
 same-length-2 c = search needs
 
 returns-2 : tie.Need-returns-2
-unfolding endText
-returns-2 c = rw (ne-eqb _ 0 (c .before .before .before .before .before .if1 .left)) (c .before .before .put-blocked .ensures)
+returns-2 c = rw (ne-eqb _ 0 (c .before .before .before .before .if1 .left)) (c .before .before .put-blocked .ensures)
 
 pub put-end-spec : {M : Type 1} → statement M
 put-end-spec =

@@ -1,11 +1,11 @@
 -- `rows::changes::fill_registers` meets its contract.
-use mathlib.Core.Path.{refl, ap, _∙_}
+use mathlib.Core.Path.{refl, ap₂, _∙_}
 use Prim.Native.Nat.{ℕ, _-_}
 use native.Mathlib.Omega.{arith}
 use mathlib.Core.List.{map}
 use lib.ListN.{length}
 use borrow.Author.Needs.{needs}
-use Rattle.rows.specs.Rows.{waiting, fillNumber}
+use Rattle.rows.specs.Rows.{fillNumber}
 use Rattle.rows.proofs.Walks.{Mapping, map-on, map-end}
 use Rattle.rows.proofs.changes.fill_registers.Statement.{statement}
 use Rattle.rows.proofs.changes.fill_registers.Tie as tie
@@ -16,11 +16,8 @@ Inv-loop rf₀ tag k i₀ rf i = Mapping (fillNumber tag k) (length rf₀) rf i 
 abbrev μ-loop : tie.MeasureT-loop
 μ-loop rf₀ tag k i₀ rf i = length rf₀ - i
 
-cast-tag : tie.Need-cast-tag Inv-loop μ-loop
-cast-tag c = search needs
-
-add-tag : tie.Need-add-tag Inv-loop μ-loop
-add-tag c = search needs
+waiting-requires : tie.Need-waiting-requires Inv-loop μ-loop
+waiting-requires c κs = search needs
 
 coded-value-requires : tie.Need-coded-value-requires Inv-loop μ-loop
 coded-value-requires c κs = search needs
@@ -56,7 +53,7 @@ same-length : tie.Need-same-length Inv-loop μ-loop
 same-length c = c .before .loop .inv .long
 
 returns : tie.Need-returns Inv-loop μ-loop
-returns c = record { numbers = map-end (c .before .loop .inv) (omega (arith, c .loop-test .left, c .before .loop .inv .long)) ∙ ap (λ (x : ℕ). map (fillNumber (waiting (c .before .before .before .before .before .args .t)) x) (c .before .before .before .before .before .args .rf .now)) (c .before .before .coded-value .ensures .is); small = c .before .before .coded-value .ensures .small }
+returns c = record { numbers = map-end (c .before .loop .inv) (omega (arith, c .loop-test .left, c .before .loop .inv .long)) ∙ ap₂ (λ (w x : ℕ). map (fillNumber w x) (c .before .before .before .before .before .args .rf .now)) (c .before .before .before .waiting .ensures) (c .before .before .coded-value .ensures .is); small = c .before .before .coded-value .ensures .small }
 
 pub fill-registers-spec : {M : Type 1} → statement M
 fill-registers-spec =
@@ -64,8 +61,7 @@ fill-registers-spec =
     (tie.spec
     Inv-loop
     μ-loop
-    cast-tag
-    add-tag
+    waiting-requires
     coded-value-requires
     loop-holds
     mul-filled

@@ -1,16 +1,21 @@
 -- `rows::places::first` meets its contract.
+use mathlib.Core.Path.{ap, _∙_}
+use Rattle.rows.specs.Rows.{Row, operandOf, one}
 use borrow.Author.Needs.{needs}
 use Rattle.rows.proofs.places.first.Statement.{statement}
 use Rattle.rows.proofs.places.first.Tie as tie
 
-one-requires : tie.Need-one-requires
-one-requires c κs = search needs
+row-requires : tie.Need-row-requires
+row-requires c κs = search needs
+
+array-read-operand-of : tie.Need-array-read-operand-of
+array-read-operand-of c = search needs
 
 operand-of-requires : tie.Need-operand-of-requires
 operand-of-requires c κs = search needs
 
 returns : tie.Need-returns
-returns c = rw (c .operand-of .ensures, c .before .one .ensures)
+returns c = c .operand-of .ensures ∙ ap (λ (x : Row). operandOf (one x)) (c .before .row .ensures)
 
 pub first-spec : {M : Type 1} → statement M
-first-spec = tie.close (tie.spec one-requires operand-of-requires returns)
+first-spec = tie.close (tie.spec row-requires array-read-operand-of operand-of-requires returns)

@@ -1,6 +1,6 @@
 -- `rows::searches::held_by_register` meets its contract.
-use mathlib.Core.Path.{refl, ap}
-use Prim.Native.Nat.{_-_}
+use mathlib.Core.Path.{refl, ap, _∙_}
+use Prim.Native.Nat.{ℕ, _-_}
 use native.Mathlib.Omega.{arith}
 use lib.Dec.{eqb}
 use lib.ListN.{length}
@@ -9,7 +9,6 @@ use borrow.Author.Tests.{eq-eqb, ne-eqb}
 use borrow.Author.Needs.{needs}
 use Rattle.templates.specs.Templates.{any}
 use Rattle.templates.proofs.Seeking.{Seeking, seek-on, seek-hit, seek-end}
-use Rattle.rows.specs.Rows.{waiting}
 use Rattle.rows.proofs.searches.held_by_register.Statement.{statement}
 use Rattle.rows.proofs.searches.held_by_register.Tie as tie
 
@@ -19,35 +18,32 @@ Inv-loop rf tag i₀ i = Seeking (λ k. eqb k tag) (length rf) (length rf) rf i 
 abbrev μ-loop : tie.MeasureT-loop
 μ-loop rf tag i₀ i = length rf - i
 
-cast-tag : tie.Need-cast-tag Inv-loop μ-loop
-cast-tag c = search needs
-
-add-tag : tie.Need-add-tag Inv-loop μ-loop
-add-tag c = search needs
+waiting-requires : tie.Need-waiting-requires Inv-loop μ-loop
+waiting-requires c κs = search needs
 
 loop-holds : tie.Need-loop-holds Inv-loop μ-loop
-loop-holds c = record { long = refl; left = ap (any (λ k. eqb k (waiting (c .before .args .t)))) (take-length (c .before .args .rf .now)) }
+loop-holds c = record { long = refl; left = ap (any (λ k. eqb k _)) (take-length (c .before .before .args .rf .now)) }
 
 mul-if1 : tie.Need-mul-if1 Inv-loop μ-loop
-mul-if1 c = omega (arith, c .before .before .before .good)
+mul-if1 c = omega (arith, c .loop-test .taken, c .before .before .before .before .good)
 
 shared-slice-read-if1 : tie.Need-shared-slice-read-if1 Inv-loop μ-loop
-shared-slice-read-if1 c = omega (arith, c .before .before .before .before .good)
+shared-slice-read-if1 c = omega (arith, c .before .loop-test .taken, c .before .before .before .before .before .good)
 
 returns : tie.Need-returns Inv-loop μ-loop
-returns c = seek-hit (c .before .before .before .loop .inv) 0 (omega (arith, c .before .before .loop-test .taken)) (eq-eqb _ _ (c .if1 .taken))
+returns c = seek-hit (c .before .before .before .loop .inv) 0 (omega (arith, c .before .before .loop-test .taken)) (eq-eqb _ _ (c .if1 .taken)) ∙ ap (λ (w : ℕ). any (λ k. eqb k w) (c .before .before .before .before .before .before .args .rf .now)) (c .before .before .before .before .waiting .ensures)
 
 add-i : tie.Need-add-i Inv-loop μ-loop
-add-i c = omega (arith, c .before .before .before .before .before .good)
+add-i c = omega (arith, c .before .before .loop-test .taken, c .before .before .before .before .before .before .good)
 
 loop-less : tie.Need-loop-less Inv-loop μ-loop
-loop-less c = omega (arith, c .before .before .before .before .before .good)
+loop-less c = omega (arith, c .before .before .loop-test .taken, c .before .before .before .before .before .before .good)
 
 loop-again : tie.Need-loop-again Inv-loop μ-loop
 loop-again c = seek-on (c .before .before .before .loop .inv) 0 (omega (arith, c .before .before .loop-test .taken)) (ne-eqb _ _ (c .if1 .left))
 
 returns-2 : tie.Need-returns-2 Inv-loop μ-loop
-returns-2 c = seek-end (c .before .loop .inv) (omega (arith, c .loop-test .left))
+returns-2 c = seek-end (c .before .loop .inv) (omega (arith, c .loop-test .left)) ∙ ap (λ (w : ℕ). any (λ k. eqb k w) (c .before .before .before .before .args .rf .now)) (c .before .before .waiting .ensures)
 
 pub held-by-register-spec : {M : Type 1} → statement M
 held-by-register-spec =
@@ -55,8 +51,7 @@ held-by-register-spec =
     (tie.spec
     Inv-loop
     μ-loop
-    cast-tag
-    add-tag
+    waiting-requires
     loop-holds
     mul-if1
     shared-slice-read-if1
