@@ -10,7 +10,7 @@ use records::{Found, Record, Verdict, refusal};
 use value::Value;
 
 // The value that was loaded, or the number for no.
-#[derive(Drop)]
+#[derive(Clone, Copy)]
 pub enum Loaded {
     Is(Value),
     Refused(u8),

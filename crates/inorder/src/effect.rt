@@ -11,7 +11,7 @@ use records::refusal;
 use value::Value;
 
 // It goes to an address, puts a value into a register and goes to the next address, or stops.
-#[derive(Drop)]
+#[derive(Clone, Copy)]
 pub enum Effect {
     Goes(InstrAddr),
     Puts(Reg, Value),
@@ -19,7 +19,7 @@ pub enum Effect {
 }
 
 // The registers that an instruction reads.
-#[derive(Drop)]
+#[derive(Clone, Copy)]
 pub struct OperandPair {
     pub first: Reg,
     pub second: Reg,

@@ -13,19 +13,19 @@ use isa::{InstrAddr, REGISTERS, Reading};
 use records::Verdict;
 use value::Value;
 
-#[derive(Drop)]
+#[derive(Clone, Copy)]
 pub struct Register {
     pub value: Value,
 }
 
-#[derive(Drop)]
+#[derive(Clone, Copy)]
 pub struct InOrder {
     pub counter: InstrAddr,
     pub registers: [Register; REGISTERS],
 }
 
 // The machine after a step, the stop, 0 if there is none, and the record number of 2 and 3.
-#[derive(Drop)]
+#[derive(Clone, Copy)]
 pub struct Stepped {
     pub machine: InOrder,
     pub stop: u8,
@@ -33,7 +33,7 @@ pub struct Stepped {
 }
 
 // The same after a run, with how many instructions were executed.
-#[derive(Drop)]
+#[derive(Clone, Copy)]
 pub struct Ran {
     pub machine: InOrder,
     pub executed: u32,

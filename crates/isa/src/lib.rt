@@ -21,23 +21,23 @@ pub const LAST_OPERATION: u8 = 4;
 const LAST_OPERATION_IN_RECORD: u32 = 4;
 
 // A place in the program.
-#[derive(Drop)]
+#[derive(Clone, Copy)]
 pub struct InstrAddr(pub u32);
 
 // A place in memory.
-#[derive(Drop)]
+#[derive(Clone, Copy)]
 pub struct DataAddr(pub u32);
 
 // The name of a register.
-#[derive(Drop)]
+#[derive(Clone, Copy)]
 pub struct Reg(pub u8);
 
 // A renaming tag; 0 means no tag.
-#[derive(Drop)]
+#[derive(Clone, Copy)]
 pub struct Tag(pub u8);
 
 // The destination stands first, as in the listing.
-#[derive(Drop)]
+#[derive(Clone, Copy)]
 pub enum Instr {
     Loadc(Reg, u32),
     Loadpc(Reg),
@@ -48,7 +48,7 @@ pub enum Instr {
 }
 
 // The instruction that was read, or the number for no.
-#[derive(Drop)]
+#[derive(Clone, Copy)]
 pub enum Reading {
     Is(Instr),
     Refused(u8),

@@ -11,7 +11,7 @@ use records::{Verdict, refusal};
 use value::Value;
 
 // Where a jump goes, or the number for no.
-#[derive(Drop)]
+#[derive(Clone, Copy)]
 pub enum Reached {
     At(InstrAddr),
     Refused(u8),

@@ -11,7 +11,7 @@ use records::{Verdict, refusal};
 const ROOM: usize = 31;
 
 // The refusal, 0 if there is none, the number of the record that it is about, and how many bytes were written.
-#[derive(Drop)]
+#[derive(Clone, Copy)]
 pub struct Listed {
     pub refusal: u8,
     pub number: usize,

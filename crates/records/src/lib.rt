@@ -9,7 +9,7 @@ ghost use Rattle.records.specs.Scan.{judged};
 pub mod refusal;
 
 // Four bytes, and a 32-bit number behind them, its lowest byte first.
-#[derive(Drop)]
+#[derive(Clone, Copy)]
 pub struct Record {
     pub b0: u8,
     pub b1: u8,
@@ -19,14 +19,14 @@ pub struct Record {
 }
 
 // What stands at a record number.
-#[derive(Drop)]
+#[derive(Clone, Copy)]
 pub enum Found {
     Is(Record),
     Nothing,
 }
 
 // A refusal, 0 if there is none, and the number of the record that it is about.
-#[derive(Drop)]
+#[derive(Clone, Copy)]
 pub struct Verdict {
     pub refusal: u8,
     pub number: usize,

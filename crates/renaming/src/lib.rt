@@ -9,7 +9,7 @@ mod running;
 pub use crate::entries::{drain, run, step};
 
 // Where the machine stands after a rule, and the rule's refusal, 0 if there is none.
-#[derive(Drop)]
+#[derive(Clone, Copy)]
 pub(crate) struct Now {
     pub counter: templates::Counter,
     pub count: usize,
@@ -17,7 +17,7 @@ pub(crate) struct Now {
 }
 
 // Where a run over the working table ended.
-#[derive(Drop)]
+#[derive(Clone, Copy)]
 pub(crate) struct Went {
     pub counter: templates::Counter,
     pub count: usize,
@@ -27,7 +27,7 @@ pub(crate) struct Went {
 }
 
 // Where a drain over the working table ended.
-#[derive(Drop)]
+#[derive(Clone, Copy)]
 pub(crate) struct Emptied {
     pub counter: templates::Counter,
     pub count: usize,
@@ -35,7 +35,7 @@ pub(crate) struct Emptied {
 }
 
 // The state after a step, the refusal, 0 if there is none, and the record number of refusals 2 and 3.
-#[derive(Drop)]
+#[derive(Clone, Copy)]
 pub struct Stepped {
     pub state: templates::State,
     pub refusal: u8,
@@ -43,7 +43,7 @@ pub struct Stepped {
 }
 
 // The state after the accepted part of a schedule, accepted records and issues, the refusal, and the record number of 2 and 3.
-#[derive(Drop)]
+#[derive(Clone, Copy)]
 pub struct Ran {
     pub state: templates::State,
     pub accepted: usize,
@@ -54,7 +54,7 @@ pub struct Ran {
 
 // The state that a drain leaves, the rules that it applied, and the record number of refusals 2 and 3. The refusal is 1 to 4 where
 // the checks refuse; else 0 if no template is left, or the oldest template's, whose address stands beside it.
-#[derive(Drop)]
+#[derive(Clone, Copy)]
 pub struct Settled {
     pub state: templates::State,
     pub rules: usize,

@@ -13,7 +13,7 @@ use templates::State;
 pub const ROOM: usize = 24576;
 
 // Which file is refused, 0 if none is, the refusal, and the number of the record that it is about.
-#[derive(Drop)]
+#[derive(Clone, Copy)]
 pub struct Input {
     pub file: u8,
     pub refusal: u8,
@@ -21,7 +21,7 @@ pub struct Input {
 }
 
 // The refusal, 0 if there is none, and how many bytes were written.
-#[derive(Drop)]
+#[derive(Clone, Copy)]
 pub struct Reported {
     pub refusal: u8,
     pub written: usize,

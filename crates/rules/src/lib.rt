@@ -2,7 +2,7 @@
 #![tactic(auto)]
 
 // The rules but issue.
-#[derive(Drop)]
+#[derive(Clone, Copy)]
 pub enum Rule {
     Operate,
     Forward,
@@ -15,7 +15,7 @@ pub enum Rule {
 }
 
 // A schedule record, read: malformed, an issue with a tag, or a rule at a place.
-#[derive(Drop)]
+#[derive(Clone, Copy)]
 pub enum Command {
     Malformed,
     Issue(isa::Tag),

@@ -12,7 +12,7 @@ use isa::{LAST_OPERATION, Tag};
 use templates::{Counter, LAST_TAG, Operand, PLACES, ROOM, State, TAGS, Template, Work};
 
 // What a walk of the templates found: whether they are in order, and which of the tags have a producer if they are.
-#[derive(Drop)]
+#[derive(Clone, Copy)]
 struct Checked {
     ok: bool,
     made: [bool; TAGS],

@@ -4,7 +4,7 @@ use isa::InstrAddr;
 use templates::{Counter, State};
 
 // Rules or instructions of all repetitions, and the refusal and the counter of the last.
-#[derive(Drop)]
+#[derive(Clone, Copy)]
 pub struct Tally {
     pub rules: u64,
     pub refusal: u8,

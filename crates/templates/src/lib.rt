@@ -22,14 +22,14 @@ pub const LAST_TAG: u8 = 64;
 pub const TAGS: usize = 65;
 
 // What a register or an operand holds: a value, or the tag that it waits for.
-#[derive(Drop)]
+#[derive(Clone, Copy)]
 pub enum Operand {
     Known(Value),
     Waits(Tag),
 }
 
 // What a template still has to do; a value template is done.
-#[derive(Drop)]
+#[derive(Clone, Copy)]
 pub enum Work {
     Done(Tag, Value),
     Op(Tag, u8, Operand, Operand),
@@ -38,25 +38,25 @@ pub enum Work {
     Store(Operand, Operand),
 }
 
-#[derive(Drop)]
+#[derive(Clone, Copy)]
 pub struct Template {
     pub address: InstrAddr,
     pub work: Work,
 }
 
-#[derive(Drop)]
+#[derive(Clone, Copy)]
 pub struct Register {
     pub holds: Operand,
 }
 
-#[derive(Drop)]
+#[derive(Clone, Copy)]
 pub enum Counter {
     At(InstrAddr),
     Stall,
 }
 
 // The first `count` places of the table hold the templates, the oldest first; the others are blank.
-#[derive(Drop)]
+#[derive(Clone, Copy)]
 pub struct State {
     pub counter: Counter,
     pub registers: [Register; isa::REGISTERS],

@@ -1,9 +1,10 @@
 // Values, and the five operations on them.
 #![tactic(auto)]
+
 ghost use Rattle.std.specs.Prelude.{◌≡◌};
 ghost use Rattle.value.specs.Operation.{signed, word_of, add, sub, mul, div, less, result_of};
 
-#[derive(Drop)]
+#[derive(Clone, Copy)]
 pub enum Value {
     Undefined,
     Word(u32),

@@ -1,0 +1,13 @@
+-- `records::read` meets its contract.
+use mathlib.Core.Path.{ap, ◌∙◌, sym}
+use Rattle.records.specs.Records.{found}
+use Rattle.records.specs.declared.Found.TheVariants.{Is}
+use Rattle.records.proofs.Tabulate.{record-at, record_past}
+use borrow.Author.Rules.{rules}
+use Rattle.records.proofs.read.Goals as goal
+
+pub returns-then-number-b : goal.returns-then-number-b
+returns-then-number-b c = ap Is c.record_from.ensures ∙ sym (ap found (record-at _ _ c.if-number-b.true))
+
+pub returns-else-number-b : goal.returns-else-number-b
+returns-else-number-b c = sym (ap found (record_past _ _ c.if-number-b.false))

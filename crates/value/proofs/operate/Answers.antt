@@ -1,0 +1,40 @@
+-- `value::operate` meets its contract.
+use Rattle.std.proofs.Common.{◌≡◌, ℕ, sym, refl, ap, ◌∙◌, rules, ne_eqb}
+use Rattle.value.specs.declared.Value.{Value}
+use Rattle.value.specs.declared.Value.TheVariants.{Word}
+use Rattle.value.specs.Operation.{result_of, on_words}
+use Rattle.value.proofs.operate.Goals as goal
+
+-- the operation's number n and the two words, as the three matches have them
+
+told : {n m a b : ℕ} {x y : Value} → m ≡ n → x ≡ Word a → y ≡ Word b → result_of m x y ≡ on_words n a b
+unfolding result_of
+told e f g = λ i. result_of (e i) (f i) (g i)
+
+pub returns-in-Undefined : goal.returns-in-Undefined
+unfolding result_of
+returns-in-Undefined c = rw c.in-Undefined.is refl
+
+pub returns-in-Undefined-second : goal.returns-in-Undefined-second
+unfolding result_of
+returns-in-Undefined-second c = rw (c.in-Word.is, c.in-Undefined-second.is) refl
+
+pub returns-in-0 : goal.returns-in-0
+returns-in-0 c = ap Word c.plus.ensures ∙ sym (told c.in-0.is c.in-Word.is c.in-Word-second.is)
+
+pub returns-in-1 : goal.returns-in-1
+returns-in-1 c = ap Word c.minus.ensures ∙ sym (told c.in-1.is c.in-Word.is c.in-Word-second.is)
+
+pub returns-in-2 : goal.returns-in-2
+returns-in-2 c = ap Word c.times.ensures ∙ sym (told c.in-2.is c.in-Word.is c.in-Word-second.is)
+
+pub returns-in-3 : goal.returns-in-3
+returns-in-3 c = c.quotient.ensures ∙ sym (told c.in-3.is c.in-Word.is c.in-Word-second.is)
+
+pub returns-in-4 : goal.returns-in-4
+returns-in-4 c = ap Word c.smaller.ensures ∙ sym (told c.in-4.is c.in-Word.is c.in-Word-second.is)
+
+pub returns-in_default : goal.returns-in_default
+returns-in_default c = let other = c.match3.rest in
+    sym (told refl c.in-Word.is c.in-Word-second.is
+    ∙ rw (ne_eqb _ _ other.0.0.0.0.1, ne_eqb _ _ other.0.0.0.1, ne_eqb _ _ other.0.0.1, ne_eqb _ _ other.0.1, ne_eqb _ _ other.1))
