@@ -1,5 +1,6 @@
 // The AX instruction set: its four spaces, its instructions, their records, and the scan of a program.
 #![tactic(auto)]
+
 ghost use Rattle.std.specs.Prelude.{◌≡◌};
 ghost use Rattle.records.specs.Records.{records};
 ghost use Rattle.records.specs.Scan.{leading};

@@ -1,5 +1,6 @@
 // Records of 8 bytes in a lent buffer, and the numbers for no.
 #![tactic(auto)]
+
 ghost use Rattle.std.specs.Prelude.{◌≡◌, ◌+◌, ◌*◌, ◌≤◌, length};
 ghost use Rattle.std.proofs.Math.ListN.{get_elem?};
 ghost use Rattle.std.proofs.lemmas.List.Edits.{sets};

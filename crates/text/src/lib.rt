@@ -1,5 +1,6 @@
 // Text, written byte by byte into a lent buffer.
 #![tactic(auto)]
+
 ghost use Rattle.std.specs.Prelude.{[], ◌∷◌, ◌%◌};
 ghost use Rattle.text.specs.Text.{Put, digit, decimal};
 

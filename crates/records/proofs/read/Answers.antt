@@ -3,7 +3,6 @@ use mathlib.Core.Path.{ap, ◌∙◌, sym}
 use Rattle.records.specs.Records.{found}
 use Rattle.records.specs.declared.Found.TheVariants.{Is}
 use Rattle.records.proofs.Tabulate.{record-at, record_past}
-use borrow.Author.Rules.{rules}
 use Rattle.records.proofs.read.Goals as goal
 
 pub returns-then-number-b : goal.returns-then-number-b

@@ -1,5 +1,4 @@
 -- `records::record_from` meets its contract.
-use borrow.Author.Rules.{rules}
 use Rattle.records.proofs.record_from.Goals as goal
 
 pub returns : goal.returns

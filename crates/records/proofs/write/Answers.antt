@@ -1,6 +1,5 @@
 -- `records::write` meets its contract.
 use borrow.Author.Tests.{lt-ltb, le-ltb}
-use borrow.Author.Rules.{rules}
 use Rattle.records.proofs.write.Goals as goal
 
 pub returns-then-number-out : goal.returns-then-number-out

@@ -1,21 +1,10 @@
 -- `text::put_decimal` meets its contract: the number falls, and its last digit follows the text of its tenth.
-use mathlib.Core.Path.{sym, ◌∙◌}
+use mathlib.Core.Path.{sym}
 use native.Mathlib.Omega.{arith}
 use Rattle.text.proofs.Puts.{put_as, puts}
 use Rattle.text.proofs.Decimal.{decimal-one, decimal_more}
-use Prim.Native.Nat.{ℕ, ◌<◌, ◌≤◌}
+use Prim.Native.Nat.{◌<◌, ◌≤◌}
 use Rattle.text.proofs.+put_decimal.Goals as goal
-
-abbrev μ-put-decimal : Measures 1 put-decimal-kinds.ps ℕ
-μ-put-decimal κs a = a.1.1.0
-
-abbrev put_decimal-at : ℕ → In 1 put-decimal-kinds.ps
-put_decimal-at t =
-    and 1 put-decimal-kinds.ps (is 1 put-decimal-kinds.ps μ-put-decimal t) put-decimal.Pre
-
-abbrev put_decimal_below : ℕ → In 1 put-decimal-kinds.ps
-put_decimal_below t =
-    and 1 put-decimal-kinds.ps (falls 1 put-decimal-kinds.ps ◌<◌ μ-put-decimal t) put-decimal.Pre
 
 pub returns-then-n-lt10 : goal.returns-then-n-lt10
 returns-then-n-lt10 t c = let one : c.args.n < 10 = omega arith in put_as c.put_digit.ensures (sym (decimal-one _ one))

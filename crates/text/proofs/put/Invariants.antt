@@ -1,9 +1,7 @@
 -- `text::put` meets its contract: after i turns the first i bytes of the text are put.
 use Prim.Native.Nat.{◌-◌, ◌≤◌}
-use native.Mathlib.Omega.{arith}
 use lib.ListN.{length, take}
 use Rattle.text.specs.Text.{Put}
-use Rattle.text.proofs.Puts.{put-nothing, put-length, put_step, put_stop, put_all}
 use Rattle.text.proofs.put.Given as goal
 
 abbrev pub invariant-loop-i : goal.invariant-loop-i

@@ -1,6 +1,5 @@
 -- `text::put_digit` meets its contract: one byte, or a buffer that is full.
 use Rattle.text.proofs.Puts.{put_full, put_byte}
-use borrow.Author.Rules.{rules}
 use Rattle.text.proofs.put_digit.Goals as goal
 
 pub returns-then-at-out : goal.returns-then-at-out

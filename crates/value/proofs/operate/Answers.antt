@@ -1,12 +1,11 @@
 -- `value::operate` meets its contract.
-use Rattle.std.proofs.Common.{◌≡◌, ℕ, sym, refl, ap, ◌∙◌, rules, ne_eqb}
+use Rattle.std.proofs.Common.{arith, ◌≡◌, ◌≢◌, ℕ, sym, refl, ap, ◌∙◌, ne_eqb}
 use Rattle.value.specs.declared.Value.{Value}
 use Rattle.value.specs.declared.Value.TheVariants.{Word}
 use Rattle.value.specs.Operation.{result_of, on_words}
 use Rattle.value.proofs.operate.Goals as goal
 
 -- the operation's number n and the two words, as the three matches have them
-
 told : {n m a b : ℕ} {x y : Value} → m ≡ n → x ≡ Word a → y ≡ Word b → result_of m x y ≡ on_words n a b
 unfolding result_of
 told e f g = λ i. result_of (e i) (f i) (g i)
@@ -35,6 +34,11 @@ pub returns-in-4 : goal.returns-in-4
 returns-in-4 c = ap Word c.smaller.ensures ∙ sym (told c.in-4.is c.in-Word.is c.in-Word-second.is)
 
 pub returns-in_default : goal.returns-in_default
-returns-in_default c = let other = c.match3.rest in
-    sym (told refl c.in-Word.is c.in-Word-second.is
-    ∙ rw (ne_eqb _ _ other.0.0.0.0.1, ne_eqb _ _ other.0.0.0.1, ne_eqb _ _ other.0.0.1, ne_eqb _ _ other.0.1, ne_eqb _ _ other.1))
+unfolding result_of
+returns-in_default c =
+    let zero : c.args.operation ≢ 0 = omega arith in
+    let one : c.args.operation ≢ 1 = omega arith in
+    let two : c.args.operation ≢ 2 = omega arith in
+    let three : c.args.operation ≢ 3 = omega arith in
+    let four : c.args.operation ≢ 4 = omega arith in
+    rw (c.in-Word.is, c.in-Word-second.is, ne_eqb _ _ zero, ne_eqb _ _ one, ne_eqb _ _ two, ne_eqb _ _ three, ne_eqb _ _ four) refl

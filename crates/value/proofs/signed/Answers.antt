@@ -1,5 +1,5 @@
 -- `value::signed` meets its contract.
-use Rattle.std.proofs.Common.{◌≡◌, ◌-◌, ap, arith, rules}
+use Rattle.std.proofs.Common.{◌≡◌, ◌-◌, ap, arith}
 use Rattle.value.specs.Operation.{signed}
 use Rattle.value.proofs.signed.Goals as goal
 

@@ -1,5 +1,5 @@
 -- `value::smaller` meets its contract.
-use Rattle.std.proofs.Common.{Bool, cond, sym, ap, ◌∙◌, rules}
+use Rattle.std.proofs.Common.{Bool, cond, sym, ap, ◌∙◌}
 use lib.Signed.{lt_z}
 use Rattle.value.proofs.Complement.{read₂}
 use Rattle.value.proofs.smaller.Goals as goal

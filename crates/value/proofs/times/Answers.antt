@@ -1,5 +1,5 @@
 -- `value::times` meets its contract.
-use Rattle.std.proofs.Common.{◌^◌, lt_of_le_of_lt, le_of_lt, mul-le-mul_left, mul-lt-mul_of_pos_right, lit<, rules}
+use Rattle.std.proofs.Common.{◌^◌, lt_of_le_of_lt, le_of_lt, mul-le-mul_left, mul-lt-mul_of_pos_right, lit<}
 use Rattle.value.proofs.times.Goals as goal
 
 pub overflow_mul-result : goal.overflow_mul-result

@@ -1,0 +1,12 @@
+-- `isa::scan` meets its contract.
+use mathlib.Core.Path.{refl, sym, ◌∙◌}
+use Rattle.isa.specs.Program.{scan_of}
+use Rattle.isa.proofs.scan.Goals as goal
+
+pub returns-then-not-is_whole : goal.returns-then-not-is_whole
+unfolding scan_of
+returns-then-not-is_whole c = rw (sym c.is_whole.ensures ∙ c.if-not-is_whole.true) refl
+
+pub returns : goal.returns
+unfolding scan_of
+returns c = rw (sym c.is_whole.ensures ∙ c.if-not-is_whole.false) (rw (← c.leading_instructions.ensures) c.judge.ensures)
