@@ -1,5 +1,6 @@
 // Memory: cells of 8 bytes in a lent buffer.
 #![tactic(auto)]
+
 ghost use Rattle.std.specs.Prelude.{◌≡◌, ◌^◌, ◌<◌};
 ghost use Rattle.records.specs.Records.{records};
 ghost use Rattle.records.specs.Scan.{leading};

@@ -1,5 +1,6 @@
 // The renaming machine's state: templates, registers and counter; and one template's leaves.
 #![tactic(auto)]
+
 ghost use Rattle.std.specs.Prelude.{◌≡◌};
 ghost use Rattle.templates.specs.Machine.{start};
 ghost use Rattle.templates.specs.Layout.{state_of};

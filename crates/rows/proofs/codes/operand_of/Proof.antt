@@ -8,7 +8,7 @@ value-of-requires : tie.Need-value-of-requires
 value-of-requires c κs = search rules
 
 returns : tie.Need-returns
-returns c = rw (le-leb _ _ c.before.if1.true, c.value_of_lem.ensures)
+returns c = rw (le-leb _ _ c.before.if1.true, c.value_of.ensures)
 
 sub-t4 : tie.Need-overflow-sub-t4
 sub-t4 c = search rules

@@ -15,7 +15,7 @@ value-of-requires : tie.Need-value-of-requires
 value-of-requires c κs = search rules
 
 returns : tie.Need-returns
-returns c = c.value_of_lem.ensures ∙ ap (λ (x : Row). value_of (one x)) c.before.row.ensures
+returns c = c.value_of.ensures ∙ ap (λ (x : Row). value_of (one x)) c.before.row.ensures
 
 pub value_spec : {M : Type 1} → statement M
 value_spec = tie.close (tie.spec row-requires array-read-value-of value-of-requires returns)
