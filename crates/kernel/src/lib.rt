@@ -1,5 +1,6 @@
 // What both machines share: the checks of program and memory, and what an instruction does once its operands are values.
 #![tactic(auto)]
+
 ghost use Rattle.std.specs.Prelude.{◌≡◌};
 ghost use Rattle.cells.specs.Cells.{cells, answer};
 ghost use Rattle.kernel.specs.Checks.{checked};

@@ -1,6 +1,5 @@
 -- `kernel::read_at` meets its contract.
 use mathlib.Core.Path.{refl}
-use borrow.Author.Rules.{rules}
 use Rattle.kernel.proofs.read_at.Goals as goal
 
 pub returns-in-Undefined : goal.returns-in-Undefined
