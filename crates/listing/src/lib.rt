@@ -1,5 +1,6 @@
 // The listing of a program as text.
 #![tactic(auto)]
+
 ghost use Rattle.std.specs.Prelude.{◌≡◌, ◌≤◌, length};
 ghost use Rattle.text.specs.Text.{Put};
 ghost use Rattle.listing.specs.Listing.{name_text, reg_text, pair_text, body_text, line_text, listing, checked, answered, Lists};
