@@ -1,5 +1,6 @@
 // The coding of the working table: a row of three numbers for each template, a number for each register, lent and changed in place.
 #![tactic(auto)]
+
 mod changes;
 mod codes;
 mod places;

@@ -1,0 +1,5 @@
+-- `rows::places::tag` meets its contract.
+use Rattle.rows.proofs.places.tag.Goals as goal
+
+pub returns : goal.returns
+returns c = rw c.row.ensures
