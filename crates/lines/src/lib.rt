@@ -1,5 +1,6 @@
 // The lines of a report, each put into a lent buffer behind the one before; the answer is the place behind it.
 #![tactic(auto)]
+
 ghost use Rattle.std.specs.Prelude.{◌+◌, length};
 ghost use Rattle.text.specs.Text.{decimal, numbered};
 ghost use Rattle.lines.specs.Lines.{input_text, ran_text, drained_text, blocked_text, counter_text, value_text, operand_text, register_text, Puts};

@@ -1,0 +1,8 @@
+-- `lines::put_ran` meets its contract: seven texts, each behind the one before.
+use Rattle.lines.proofs.Putting.{all_of, then}
+use Rattle.lines.specs.Lines.{ran_text}
+use Rattle.lines.proofs.put_ran.Goals as goal
+
+pub returns : goal.returns
+unfolding ran_text
+returns c = then (all_of c.put-first.ensures) (then c.put_count-after.ensures (then (all_of c.put-second.ensures) (then c.put_byte-then.ensures (then (all_of c.put-third.ensures) (then c.put_count-end.ensures (all_of c.put.ensures))))))
