@@ -1,5 +1,6 @@
 // The working table by what its rows stand for: read, changed, and turned from a state's registers and back into its templates and registers.
 #![tactic(auto)]
+
 ghost use Rattle.std.specs.Prelude.{◌≡◌, ◌≤◌, ◌<◌, length};
 ghost use Rattle.templates.specs.Layout.{template};
 ghost use Rattle.rows.specs.Rows.{row_at, itb_of, among, without_at, without};
