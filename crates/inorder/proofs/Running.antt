@@ -22,7 +22,6 @@ use Rattle.kernel.specs.Kernel.{next, Run, going, stopped}
 use Rattle.inorder.specs.declared.Register.{Register}
 use Rattle.inorder.specs.declared.InOrder.{InOrder}
 use Rattle.inorder.specs.declared.effect.Effect.{Effect}
-use Rattle.inorder.specs.declared.effect.Effect.TheVariants as Effect
 use Rattle.inorder.specs.declared.effect.OperandPair.{OperandPair}
 use Rattle.inorder.specs.Machine.{held, put, with, step, once}
 use Rattle.inorder.specs.Entries.{End, proceed, run_from, ended, Goes}

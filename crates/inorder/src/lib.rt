@@ -1,5 +1,6 @@
 // The in-order machine: one small record, taken and handed back whole by each step.
 #![tactic(auto)]
+
 mod effect;
 
 ghost use Rattle.std.specs.Prelude.{◌≡◌};
