@@ -13,7 +13,7 @@ use Rattle.templates.specs.declared.State.{State}
 use Rattle.templates.specs.declared.Template.{Template}
 use Rattle.templates.specs.Templates.{any}
 use Rattle.templates.specs.Machine.{Itb, mach, room}
-use Rattle.templates.specs.Layout.{places, blank, itb, itbs, mach_of}
+use Rattle.templates.specs.Layout.{places, itb, itbs, mach_of}
 use Rattle.rows.specs.Rows.{Row, row_of, is_filled, filled_from}
 use Rattle.rows.specs.Shown.{held_of, regs_of}
 use Rattle.rows.specs.Answers.{Small, All, TurnsRegisters}

@@ -1,5 +1,6 @@
 // Soundness of a state, decided on the working table.
 #![tactic(auto)]
+
 ghost use Rattle.std.specs.Prelude.{◌≡◌, ◌≤◌, true, length, drop};
 ghost use Rattle.templates.specs.Templates.{any_reg};
 ghost use Rattle.templates.specs.Machine.{last_tag, room};
