@@ -1,5 +1,6 @@
 // A schedule record, read.
 #![tactic(auto)]
+
 ghost use Rattle.std.specs.Prelude.{◌≡◌};
 ghost use Rattle.rules.specs.Schedule.{applying, issuing, command_of};
 
