@@ -1,5 +1,6 @@
 // The checks of every entry of the renaming machine: refusals 1 to 4.
 #![tactic(auto)]
+
 ghost use Rattle.std.specs.Prelude.{◌≡◌, length};
 ghost use Rattle.templates.specs.Layout.{places};
 ghost use Rattle.entry.specs.Entry.{Enters};
