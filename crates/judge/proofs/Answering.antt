@@ -29,8 +29,7 @@ use Rattle.rows.specs.Shown.{held_of, regs_of, Table, File}
 use Rattle.rows.proofs.Showing.{held_long, here, searched, searched_memory, searched_registers}
 use Rattle.rows.proofs.Works.{by_kind}
 use Rattle.rules.specs.declared.Rule.{Rule}
-use Rattle.rules.specs.declared.Rule.TheVariants as Rule
-use Rattle.rules.specs.Rules.{Step, accepted, refused, tried, known, condition, storing, becomes, go_to, rule, apply}
+use Rattle.rules.specs.Rules.{Step, accepted, refused, tried, known, condition, becomes, go_to, rule, apply}
 use Rattle.rules.specs.Drain.{refusal, refusal_at}
 use Rattle.judge.specs.Reading as Reading
 use Rattle.judge.specs.Reading.{of_kind, needing, in_order, branching, operating, loading, targeted, jumping, falling, forwarding, committing, retiring, number_on, refusal_on}

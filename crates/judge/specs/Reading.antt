@@ -7,15 +7,12 @@ use Rattle.value.specs.declared.Value.TheVariants.{Undefined, Word}
 use Rattle.value.specs.Operation.{result_of}
 use Rattle.isa.specs.declared.InstrAddr.{InstrAddr}
 use Rattle.cells.specs.declared.Loaded.{Loaded}
-use Rattle.cells.specs.declared.Loaded.TheVariants as Loaded
 use Rattle.kernel.specs.declared.Reached.{Reached}
-use Rattle.kernel.specs.declared.Reached.TheVariants as Reached
 use Rattle.kernel.specs.Kernel.{read_at, write_at, target, number}
 use Rattle.templates.specs.declared.Operand.{Operand}
 use Rattle.templates.specs.declared.Operand.TheVariants.{Known, Waits}
 use Rattle.rows.specs.Rows.{Row, a_value, an_op, a_jz, a_load, a_store, kind_at, operation_at, tag_at, first_at, second_at, held_behind, memory_before, in_register}
 use Rattle.rules.specs.declared.Rule.{Rule}
-use Rattle.rules.specs.declared.Rule.TheVariants as Rule
 
 -- ---- 11: not of the rule's kind
 

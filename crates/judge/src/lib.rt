@@ -1,5 +1,6 @@
 // What a rule other than issue answers at a place of the working table, and its refusal at a place of a state; nothing is done.
 #![tactic(auto)]
+
 ghost use Rattle.std.specs.Prelude.{◌≡◌};
 ghost use Rattle.cells.specs.Cells.{cells, answer};
 ghost use Rattle.kernel.specs.Kernel.{reached, number};
