@@ -1,17 +1,17 @@
 // What the program is given: three files and three numbers.
-ghost use Rattle.io.specs.Counts.{IsPrefixLen};
+ghost use Rattle.std.specs.Prelude.{◌≤◌, length};
+
+use std::fs;
+use std::rt::{Env, Files};
 
 // The file's bytes at the start of the buffer, and their number; one that can't be opened has none.
-pub fn file(path: &[u8], buf: &mut [u8]) -> usize
-    ensures { IsPrefixLen result buf.new }
+pub fn file(rt: &impl Files, path: &str, buf: &mut [u8]) -> usize
+    ensures { result ≤ length buf.new }
 {
-    let fd = os::open_read(path);
-    if fd < 0 {
-        return 0;
+    match fs::open(rt, path) {
+        Ok(mut file) => buffers::fill(&mut file, buf),
+        Err(_) => 0,
     }
-    let n = io::read_full(fd, buf);
-    libc::close(fd);
-    n
 }
 
 // The number that the text starts with, of at most nine digits.
@@ -36,8 +36,10 @@ fn number(text: &[u8]) -> u32 {
 }
 
 // How often a part is repeated: the argument of that number, 0 if there is none.
-pub fn times(argument: usize) -> u32 {
+pub fn times(rt: &impl Env, argument: usize) -> u32 {
     let mut text = [0u8; 16];
-    let n = os::arg(argument, &mut text);
-    number(&text[..n])
+    match rt.arg(argument, &mut text) {
+        Ok(n) => number(&text[..n]),
+        Err(_) => 0,
+    }
 }

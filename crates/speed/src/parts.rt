@@ -36,7 +36,7 @@ pub fn runs(times: u32, program: &[u8], kept: &[u8], memory: &mut [u8], schedule
         let s = ran.state;
         let c = s.counter;
         t = Tally {
-            rules: std::num::wrapping_add_u64(t.rules, ran.accepted as u64),
+            rules: t.rules.wrapping_add(ran.accepted as u64),
             refusal: ran.refusal,
             counter: c,
         };
@@ -58,7 +58,7 @@ pub fn drains(times: u32, start: State, program: &[u8], kept: &[u8], memory: &mu
         let s = settled.state;
         let c = s.counter;
         t = Tally {
-            rules: std::num::wrapping_add_u64(t.rules, settled.rules as u64),
+            rules: t.rules.wrapping_add(settled.rules as u64),
             refusal: settled.refusal,
             counter: c,
         };
@@ -88,7 +88,7 @@ pub fn executions(
         let machine = ran.machine;
         let at = machine.counter;
         t = Tally {
-            rules: std::num::wrapping_add_u64(t.rules, ran.executed as u64),
+            rules: t.rules.wrapping_add(ran.executed as u64),
             refusal: ran.stop,
             counter: Counter::At(at),
         };
