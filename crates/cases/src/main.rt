@@ -1,5 +1,4 @@
 // Runs the cases of one file and prints what each answers, to compare with what the second model says.
-#![tactic(auto)]
 //
 // cases.bin is a record whose word is the number of cases, then the cases. A case is a record with its kind, a byte and a word; then four parts, each
 // behind a record whose word is its length: the program, the memory or output that is lent, the schedule, and what else the kind is given.
@@ -13,7 +12,9 @@
 // kind 6: the value in the last part, stored at the address in the word
 // kind 7: the listing of a program, in the output
 // kind 8: the operation in the byte, on the two values in the last part
-ghost use Rattle.io.specs.Counts.{IsPrefixLen};
+#![tactic(auto)]
+
+ghost use Rattle.std.specs.Prelude.{◌≤◌, length};
 
 mod answers;
 mod bytes;
@@ -21,57 +22,65 @@ mod show;
 mod states;
 
 use records::Record;
+use std::io::Read;
+use std::{fs, io};
 
-fn head(fd: i32) -> Record {
+fn head(input: &mut impl Read) -> Record {
     let mut b = [0u8; 8];
-    io::read_full(fd, &mut b);
+    buffers::fill(input, &mut b);
     bytes::record(&b, 0)
 }
 
 // How many bytes at the buffer's start are the part; one that has no room is left out, and what is printed then differs.
-fn part(fd: i32, buf: &mut [u8]) -> usize
-    ensures { IsPrefixLen result buf.new }
+fn part(input: &mut impl Read, buf: &mut [u8]) -> usize
+    ensures { result ≤ length buf.new }
 {
-    let r = head(fd);
+    let r = head(input);
     let n = r.word as usize;
     if n > buf.len() {
-        return io::count(0, buf);
+        return 0;
     }
-    io::read_full(fd, &mut buf[..n]);
-    io::count(n as isize, buf)
+    buffers::fill(input, &mut buf[..n]);
+    n
 }
 
 // Each part has room for one record more than is allowed, which some case tries, and for the longest listing and state.
-fn case(fd: i32, number: u32) {
+fn case(rt: &impl Print, input: &mut impl Read, number: u32) -> io::Result<()> {
     let mut program = [0u8; 8200];
     let mut memory = [0u8; 31775];
     let mut schedule = [0u8; 65540];
     let mut rest = [0u8; 2056];
-    let r = head(fd);
-    let p = part(fd, &mut program);
-    let m = part(fd, &mut memory);
-    let s = part(fd, &mut schedule);
-    let n = part(fd, &mut rest);
-    show::line(b"case ", number as u64);
+    let r = head(input);
+    let p = part(input, &mut program);
+    let m = part(input, &mut memory);
+    let s = part(input, &mut schedule);
+    let n = part(input, &mut rest);
+    show::line(rt, "case ", number as u64)?;
     answers::print(
+        rt,
         r,
         &program[..p],
         &mut memory[..m],
         &schedule[..s],
         &rest[..n],
-    );
+    )
 }
 
-fn cases(fd: i32, count: u32) {
+fn cases(rt: &impl Print, input: &mut impl Read, count: u32) -> io::Result<()> {
     let mut number: u32 = 0;
     while number < count {
-        case(fd, number);
+        case(rt, input, number)?;
         number += 1;
     }
+    Ok(())
 }
 
-fn main() {
-    let fd = os::open_read(b"cases.bin");
-    let r = head(fd);
-    cases(fd, r.word);
+fn main(rt: HostRuntime) -> io::Result<()> {
+    match fs::open(&rt, "cases.bin") {
+        Ok(mut input) => {
+            let r = head(&mut input);
+            cases(&rt, &mut input, r.word)
+        }
+        Err(_) => Ok(()),
+    }
 }

@@ -3,160 +3,179 @@ use crate::bytes;
 use cells::Loaded;
 use isa::{Instr, InstrAddr, Reading, Tag};
 use records::Verdict;
+use std::io;
 use templates::{Operand, PLACES, State, Template, Work};
 use value::Value;
 
-pub fn put(b: &[u8]) {
-    io::write_all(1, b);
+pub fn put(rt: &impl Print, b: &[u8]) -> io::Result<()> {
+    rt.write_all(b)
 }
 
 // A name, and a number behind it.
-pub fn field(name: &[u8], n: u64) {
-    io::write_all(1, name);
-    io::print_decimal(1, n);
+pub fn field(rt: &impl Print, name: &str, n: u64) -> io::Result<()> {
+    print!(rt; "{name}{n}")
 }
 
 // A field that ends its line.
-pub fn line(name: &[u8], n: u64) {
-    field(name, n);
-    put(b"\n");
+pub fn line(rt: &impl Print, name: &str, n: u64) -> io::Result<()> {
+    println!(rt; "{name}{n}")
 }
 
 // The rest of a line.
-pub fn bytes(b: &[u8]) {
+pub fn bytes(rt: &impl Print, b: &[u8]) -> io::Result<()> {
     let mut i: usize = 0;
     while i < b.len() {
-        field(b" ", b[i] as u64);
+        field(rt, " ", b[i] as u64)?;
         i += 1;
     }
-    put(b"\n");
+    println!(rt)
 }
 
-pub fn verdict(name: &[u8], v: Verdict) {
-    field(name, v.refusal as u64);
-    line(b" record ", v.number as u64);
+pub fn verdict(rt: &impl Print, name: &str, v: Verdict) -> io::Result<()> {
+    field(rt, name, v.refusal as u64)?;
+    line(rt, " record ", v.number as u64)
 }
 
 // What a step answers, and the end of a run's and a drain's line.
-pub fn refused(refusal: u8, number: usize) {
-    field(b"refused ", refusal as u64);
-    line(b" record ", number as u64);
+pub fn refused(rt: &impl Print, refusal: u8, number: usize) -> io::Result<()> {
+    field(rt, "refused ", refusal as u64)?;
+    line(rt, " record ", number as u64)
 }
 
-pub fn executed(instructions: u32, stop: u8, number: usize) {
-    field(b"executed ", instructions as u64);
-    field(b" stop ", stop as u64);
-    line(b" record ", number as u64);
+pub fn executed(rt: &impl Print, instructions: u32, stop: u8, number: usize) -> io::Result<()> {
+    field(rt, "executed ", instructions as u64)?;
+    field(rt, " stop ", stop as u64)?;
+    line(rt, " record ", number as u64)
 }
 
-pub fn accepted(records: usize, issues: usize, refusal: u8, number: usize) {
-    field(b"accepted ", records as u64);
-    field(b" issued ", issues as u64);
-    put(b" ");
-    refused(refusal, number);
+pub fn accepted(
+    rt: &impl Print,
+    records: usize,
+    issues: usize,
+    refusal: u8,
+    number: usize,
+) -> io::Result<()> {
+    field(rt, "accepted ", records as u64)?;
+    field(rt, " issued ", issues as u64)?;
+    print!(rt; " ")?;
+    refused(rt, refusal, number)
 }
 
-pub fn drained(rules: usize, address: InstrAddr, refusal: u8, number: usize) {
-    field(b"drained ", rules as u64);
-    field(b" address ", address.0 as u64);
-    put(b" ");
-    refused(refusal, number);
+pub fn drained(
+    rt: &impl Print,
+    rules: usize,
+    address: InstrAddr,
+    refusal: u8,
+    number: usize,
+) -> io::Result<()> {
+    field(rt, "drained ", rules as u64)?;
+    field(rt, " address ", address.0 as u64)?;
+    print!(rt; " ")?;
+    refused(rt, refusal, number)
 }
 
 // An instruction by the fields of its record, 0 where it has none.
-fn fields(name: &[u8], r: u8, r1: u8, r2: u8, constant: u32) {
-    field(name, r as u64);
-    field(b" ", r1 as u64);
-    field(b" ", r2 as u64);
-    line(b" ", constant as u64);
+fn fields(rt: &impl Print, name: &str, r: u8, r1: u8, r2: u8, constant: u32) -> io::Result<()> {
+    field(rt, name, r as u64)?;
+    field(rt, " ", r1 as u64)?;
+    field(rt, " ", r2 as u64)?;
+    line(rt, " ", constant as u64)
 }
 
-fn instruction(i: Instr) {
+fn instruction(rt: &impl Print, i: Instr) -> io::Result<()> {
     match i {
-        Instr::Loadc(r, k) => fields(b" Loadc ", r.0, 0, 0, k),
-        Instr::Loadpc(r) => fields(b" Loadpc ", r.0, 0, 0, 0),
-        Instr::Op(r, n, r1, r2) => fields(b" Op ", r.0, r1.0, r2.0, n as u32),
-        Instr::Jz(r1, r2) => fields(b" Jz ", 0, r1.0, r2.0, 0),
-        Instr::Load(r, r1) => fields(b" Load ", r.0, r1.0, 0, 0),
-        Instr::Store(r1, r2) => fields(b" Store ", 0, r1.0, r2.0, 0),
+        Instr::Loadc(r, k) => fields(rt, " Loadc ", r.0, 0, 0, k),
+        Instr::Loadpc(r) => fields(rt, " Loadpc ", r.0, 0, 0, 0),
+        Instr::Op(r, n, r1, r2) => fields(rt, " Op ", r.0, r1.0, r2.0, n as u32),
+        Instr::Jz(r1, r2) => fields(rt, " Jz ", 0, r1.0, r2.0, 0),
+        Instr::Load(r, r1) => fields(rt, " Load ", r.0, r1.0, 0, 0),
+        Instr::Store(r1, r2) => fields(rt, " Store ", 0, r1.0, r2.0, 0),
     }
 }
 
-pub fn reading(name: &[u8], r: Reading) {
-    put(name);
+pub fn reading(rt: &impl Print, name: &str, r: Reading) -> io::Result<()> {
+    print!(rt; "{name}")?;
     match r {
-        Reading::Is(i) => instruction(i),
-        Reading::Refused(n) => line(b" refused ", n as u64),
+        Reading::Is(i) => instruction(rt, i),
+        Reading::Refused(n) => line(rt, " refused ", n as u64),
     }
 }
 
 // A dash where it is undefined.
-pub fn value(v: Value) {
+pub fn value(rt: &impl Print, v: Value) -> io::Result<()> {
     match v {
-        Value::Undefined => put(b" -"),
-        Value::Word(w) => field(b" ", w as u64),
+        Value::Undefined => print!(rt; " -"),
+        Value::Word(w) => field(rt, " ", w as u64),
     }
 }
 
-pub fn loaded(l: Loaded) {
-    put(b"load");
+pub fn loaded(rt: &impl Print, l: Loaded) -> io::Result<()> {
+    print!(rt; "load")?;
     match l {
-        Loaded::Is(v) => value(v),
-        Loaded::Refused(n) => field(b" refused ", n as u64),
+        Loaded::Is(v) => value(rt, v)?,
+        Loaded::Refused(n) => field(rt, " refused ", n as u64)?,
     }
-    put(b"\n");
+    println!(rt)
 }
 
-fn operand(o: Operand) {
+fn operand(rt: &impl Print, o: Operand) -> io::Result<()> {
     match o {
-        Operand::Known(v) => value(v),
-        Operand::Waits(t) => field(b" t", t.0 as u64),
+        Operand::Known(v) => value(rt, v),
+        Operand::Waits(t) => field(rt, " t", t.0 as u64),
     }
 }
 
 // What a template has to do: the tag and the operation are 0, and the operands undefined, where it has none.
-fn work(name: &[u8], t: Tag, n: u8, first: Operand, second: Operand) {
-    field(name, t.0 as u64);
-    field(b" ", n as u64);
-    operand(first);
-    operand(second);
-    put(b"\n");
+fn work(
+    rt: &impl Print,
+    name: &str,
+    t: Tag,
+    n: u8,
+    first: Operand,
+    second: Operand,
+) -> io::Result<()> {
+    field(rt, name, t.0 as u64)?;
+    field(rt, " ", n as u64)?;
+    operand(rt, first)?;
+    operand(rt, second)?;
+    println!(rt)
 }
 
 // The address, then the rest as in `12: Op 3 0 t1 -`.
-fn template(x: Template) {
+fn template(rt: &impl Print, x: Template) -> io::Result<()> {
     let none = Operand::Known(value::UNDEFINED);
     let w = x.work;
-    io::print_decimal(1, x.address.0 as u64);
+    print!(rt; "{}", x.address.0)?;
     match w {
-        Work::Done(t, v) => work(b": value ", t, 0, Operand::Known(v), none),
-        Work::Op(t, n, a, b) => work(b": Op ", t, n, a, b),
-        Work::Jz(a, b) => work(b": Jz ", Tag(0), 0, a, b),
-        Work::Load(t, a) => work(b": Load ", t, 0, a, none),
-        Work::Store(a, b) => work(b": Store ", Tag(0), 0, a, b),
+        Work::Done(t, v) => work(rt, ": value ", t, 0, Operand::Known(v), none),
+        Work::Op(t, n, a, b) => work(rt, ": Op ", t, n, a, b),
+        Work::Jz(a, b) => work(rt, ": Jz ", Tag(0), 0, a, b),
+        Work::Load(t, a) => work(rt, ": Load ", t, 0, a, none),
+        Work::Store(a, b) => work(rt, ": Store ", Tag(0), 0, a, b),
     }
 }
 
-fn table(ts: [Template; PLACES], count: usize) {
+fn table(rt: &impl Print, ts: [Template; PLACES], count: usize) -> io::Result<()> {
     let mut place: usize = 0;
     while place < PLACES {
         if place >= count {
-            return;
+            return Ok(());
         }
-        template(ts[place]);
+        template(rt, ts[place])?;
         place += 1;
     }
+    Ok(())
 }
 
 // Counter, registers and cells as the report has them; nothing where the memory isn't whole cells.
-pub fn contents(s: State, memory: &[u8]) {
+pub fn contents(rt: &impl Print, s: State, memory: &[u8]) -> io::Result<()> {
     let mut out = [0u8; report::ROOM];
     let r = report::contents(s, memory, &mut out);
-    put(bytes::first(&out, r.written));
+    put(rt, bytes::first(&out, r.written))
 }
 
-pub fn state(s: State, memory: &[u8]) {
+pub fn state(rt: &impl Print, s: State, memory: &[u8]) -> io::Result<()> {
     let ts = s.templates;
-    table(ts, s.count);
-    contents(s, memory);
+    table(rt, ts, s.count)?;
+    contents(rt, s, memory)
 }
