@@ -23,7 +23,6 @@ use Rattle.rows.specs.Shown.{held_of, regs_of, Table, File}
 use Rattle.rows.proofs.Showing.{held_long}
 use Rattle.rows.proofs.Works.{work-value, work_op, work_jz, work-load, work-store}
 use Rattle.rules.specs.declared.Rule.{Rule}
-use Rattle.rules.specs.declared.Rule.TheVariants as Rule
 use Rattle.rules.specs.Rules as Rules
 use Rattle.rules.specs.Rules.{Step, refused, apply}
 use Rattle.rules.specs.Drain.{first, rules, first_of, seek, oldest, Drained, further, drain_from, drain, due, due_value, due_jump}

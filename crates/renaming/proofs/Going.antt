@@ -8,7 +8,7 @@ use mathlib.Core.List.{List, [], ◌∷◌}
 use lib.ListN.{length, get_or, drop, drop_of_length-le}
 use borrow.Author.Tests.{eq-eqb, ne_eqb}
 use Rattle.records.specs.declared.Verdict.{Verdict}
-use Rattle.records.specs.Scan.{verdict, accepted}
+use Rattle.records.specs.Scan.{verdict}
 use Rattle.records.specs.Records.{tabulate}
 use Rattle.records.proofs.Tabulate.{length-tabulate, tabulate-at}
 use Rattle.records.proofs.Leading.{drop_some}

@@ -17,9 +17,7 @@ use Rattle.isa.specs.declared.InstrAddr.{InstrAddr}
 use Rattle.isa.specs.declared.Tag.{Tag}
 use Rattle.cells.specs.Cells.{cells, answer}
 use Rattle.cells.specs.declared.Loaded.{Loaded}
-use Rattle.cells.specs.declared.Loaded.TheVariants as Loaded
 use Rattle.kernel.specs.declared.Reached.{Reached}
-use Rattle.kernel.specs.declared.Reached.TheVariants as Reached
 use Rattle.kernel.specs.Kernel.{next, reached, write_at, number, or_kept, Writes}
 use Rattle.kernel.proofs.Numbers.{Fails, write_fails}
 use Rattle.kernel.proofs.Writing.{write_formed}
@@ -36,7 +34,6 @@ use Rattle.rows.specs.Answers.{Finishes, Fills}
 use Rattle.rows.proofs.Showing.{Shows, shown, tabled, here, held_long, fills, fills_long, leaves, leaves_long, finishes, finishes_long, filled-listed, filled_filed}
 use Rattle.rows.proofs.Works.{work-value}
 use Rattle.rules.specs.declared.Rule.{Rule}
-use Rattle.rules.specs.declared.Rule.TheVariants as Rule
 use Rattle.rules.specs.Rules.{Step, accepted, refused, tried, apply}
 use Rattle.rules.specs.Drain.{refusal}
 use Rattle.rules.proofs.Numbered.{Numbered}

@@ -10,10 +10,8 @@ use Rattle.isa.specs.declared.Instr.{Instr}
 use Rattle.isa.specs.declared.Tag.{Tag}
 use Rattle.isa.specs.Program.{scan_of}
 use Rattle.cells.specs.declared.Loaded.{Loaded}
-use Rattle.cells.specs.declared.Loaded.TheVariants as Loaded
 use Rattle.cells.specs.Cells.{cells, Formed}
 use Rattle.kernel.specs.declared.Reached.{Reached}
-use Rattle.kernel.specs.declared.Reached.TheVariants as Reached
 use Rattle.kernel.specs.Checks.{first, checked}
 use Rattle.kernel.specs.Kernel.{next, number, or_kept}
 use Rattle.templates.specs.declared.Counter.{Counter}
@@ -25,7 +23,7 @@ use Rattle.sound.specs.Sound.{sound_mach}
 use Rattle.sound.specs.Search.{sound_on}
 use Rattle.rows.specs.Rows.{Row, tag_at, address_at}
 use Rattle.rows.specs.Shown.{held_of, regs_of, Table, File}
-use Rattle.rules.specs.Rules.{Step, accepted, refused, tried, renamed}
+use Rattle.rules.specs.Rules.{Step, accepted, refused, renamed}
 use Rattle.rules.specs.Run.{End}
 use Rattle.rules.specs.Drain.{refusal, blocking, Drained}
 use Rattle.judge.specs.Reading.{storing, falling}

@@ -1,5 +1,6 @@
 // The renaming machine: its nine rules, step, run and drain.
 #![tactic(auto)]
+
 mod apply;
 mod draining;
 mod entries;
