@@ -1,6 +1,6 @@
 """The programs that are measured, their schedules, and what the second model says of each part.
 
-As a program it writes each case's three files to a folder of their own, for `target/bin/speed` to be run there by hand.
+As a program it writes each case's three files to a folder of their own, for `crates/speed/out/speed` to be run there by hand.
 """
 
 import os

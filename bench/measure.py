@@ -113,8 +113,8 @@ def version(command):
 
 def installed(rust):
     """The machines that can be measured, and a line on each."""
-    machines = {"ours": Native("target/bin/speed")}
-    print("ours: -O3, as `rt check` builds it, %s" % version(["rt", "version"]))
+    machines = {"ours": Native("crates/speed/out/speed")}
+    print("ours: -O3, as `rt run` builds it, %s" % version(["rt", "version"]))
     if os.path.exists(rust):
         machines["Rust"] = Native(rust)
         print("Rust: -C opt-level=3, %s" % version(["rustc", "--version"]))
