@@ -1,5 +1,6 @@
 // The report of a run, as text in a lent buffer: what the run program prints.
 #![tactic(auto)]
+
 ghost use Rattle.std.specs.Prelude.{◌≤◌, length};
 ghost use Rattle.report.specs.Report.{Tells, Reports, Shows};
 
