@@ -76,16 +76,16 @@ fn steps(
 }
 
 fn look(rt: &impl Print, program: &[u8], memory: &[u8], address: u32) -> io::Result<()> {
-    show::reading(rt, "read", isa::read(program))?;
-    show::reading(rt, "fetch", isa::fetch(program, InstrAddr(address)))?;
-    show::verdict(rt, "program ", isa::scan(program))?;
-    show::verdict(rt, "memory ", cells::scan(memory))?;
+    show::reading(rt, b"read", isa::read(program))?;
+    show::reading(rt, b"fetch", isa::fetch(program, InstrAddr(address)))?;
+    show::verdict(rt, b"program ", isa::scan(program))?;
+    show::verdict(rt, b"memory ", cells::scan(memory))?;
     show::loaded(rt, cells::load(memory, DataAddr(address)))
 }
 
 fn write(rt: &impl Print, out: &mut [u8], given: &[u8]) -> io::Result<()> {
     let i = states::instruction_of(bytes::record(given, 0));
-    show::field(rt, "write ", isa::write(i, out) as u64)?;
+    show::field(rt, b"write ", isa::write(i, out) as u64)?;
     show::bytes(rt, &out[..])
 }
 
@@ -93,7 +93,7 @@ fn store(rt: &impl Print, memory: &mut [u8], address: u32, given: &[u8]) -> io::
     let v = states::value_of(bytes::record(given, 0));
     show::field(
         rt,
-        "store ",
+        b"store ",
         cells::store(memory, DataAddr(address), v) as u64,
     )?;
     show::bytes(rt, &memory[..])
@@ -101,9 +101,9 @@ fn store(rt: &impl Print, memory: &mut [u8], address: u32, given: &[u8]) -> io::
 
 fn list(rt: &impl Print, program: &[u8], out: &mut [u8]) -> io::Result<()> {
     let listed = listing::list(program, out);
-    show::field(rt, "listed ", listed.refusal as u64)?;
-    show::field(rt, " record ", listed.number as u64)?;
-    show::line(rt, " bytes ", listed.written as u64)?;
+    show::field(rt, b"listed ", listed.refusal as u64)?;
+    show::field(rt, b" record ", listed.number as u64)?;
+    show::line(rt, b" bytes ", listed.written as u64)?;
     show::put(rt, &out[..])?;
     println!(rt)
 }

@@ -55,7 +55,7 @@ fn case(rt: &impl Print, input: &mut impl Read, number: u32) -> io::Result<()> {
     let m = part(input, &mut memory);
     let s = part(input, &mut schedule);
     let n = part(input, &mut rest);
-    show::line(rt, "case ", number as u64)?;
+    show::line(rt, b"case ", number as u64)?;
     answers::print(
         rt,
         r,

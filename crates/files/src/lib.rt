@@ -15,9 +15,13 @@ fn unreadable(buf: &[u8]) -> usize
 }
 
 // How many of the file's bytes are at the start of the buffer; buffers::fill doesn't tell a failed read, so the end is looked for.
-fn load(rt: &impl Files, path: &str, buf: &mut [u8]) -> usize
+// A path is text for the library, so one that isn't can't be opened.
+fn load(rt: &impl Files, path: &[u8], buf: &mut [u8]) -> usize
     ensures { result ≤ length buf.new }
 {
+    let Ok(path) = str::from_utf8(path) else {
+        return unreadable(buf);
+    };
     let Ok(mut file) = fs::open(rt, path) else {
         return unreadable(buf);
     };
@@ -32,9 +36,9 @@ fn load(rt: &impl Files, path: &str, buf: &mut [u8]) -> usize
 // Reads the files of those three names, each with room for one byte more than it may have, and prints the report.
 pub fn run(
     rt: &(impl Files + Print),
-    program_path: &str,
-    memory_path: &str,
-    schedule_path: &str,
+    program_path: &[u8],
+    memory_path: &[u8],
+    schedule_path: &[u8],
 ) -> io::Result<()> {
     let mut program = [0u8; 8193];
     let mut memory = [0u8; 8193];

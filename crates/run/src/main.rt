@@ -4,5 +4,5 @@
 use std::io;
 
 fn main(rt: HostRuntime) -> io::Result<()> {
-    files::run(&rt, "program.ax", "memory.ax", "schedule.ax")
+    files::run(&rt, b"program.ax", b"memory.ax", b"schedule.ax")
 }

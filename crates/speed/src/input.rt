@@ -5,9 +5,12 @@ use std::fs;
 use std::rt::{Env, Files};
 
 // The file's bytes at the start of the buffer, and their number; one that can't be opened has none.
-pub fn file(rt: &impl Files, path: &str, buf: &mut [u8]) -> usize
+pub fn file(rt: &impl Files, path: &[u8], buf: &mut [u8]) -> usize
     ensures { result ≤ length buf.new }
 {
+    let Ok(path) = str::from_utf8(path) else {
+        return 0;
+    };
     match fs::open(rt, path) {
         Ok(mut file) => buffers::fill(&mut file, buf),
         Err(_) => 0,

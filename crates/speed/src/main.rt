@@ -10,17 +10,18 @@ use std::io;
 use std::rt::Env;
 use templates::{Counter, State};
 
-fn field(rt: &impl Print, name: &str, n: u64) -> io::Result<()> {
-    print!(rt; "{name}{n}")
+fn field(rt: &impl Print, name: &[u8], n: u64) -> io::Result<()> {
+    rt.write_all(name)?;
+    print!(rt; "{n}")
 }
 
 // A line of the form `run 10 refused 0 pc 5`.
-fn print(rt: &impl Print, part: &str, t: Tally) -> io::Result<()> {
+fn print(rt: &impl Print, part: &[u8], t: Tally) -> io::Result<()> {
     let c = t.counter;
     field(rt, part, t.rules)?;
-    field(rt, " refused ", t.refusal as u64)?;
+    field(rt, b" refused ", t.refusal as u64)?;
     match c {
-        Counter::At(a) => field(rt, " pc ", a.0 as u64)?,
+        Counter::At(a) => field(rt, b" pc ", a.0 as u64)?,
         Counter::Stall => print!(rt; " pc stall")?,
     }
     println!(rt)
@@ -40,17 +41,17 @@ fn measure(
     let s = ran.state;
     print(
         rt,
-        "run ",
+        b"run ",
         parts::runs(input::times(rt, 1), program, kept, memory, schedule),
     )?;
     print(
         rt,
-        "drain ",
+        b"drain ",
         parts::drains(input::times(rt, 2), s, program, left, memory),
     )?;
     print(
         rt,
-        "inorder ",
+        b"inorder ",
         parts::executions(input::times(rt, 3), program, kept, memory, ran.issued),
     )
 }
@@ -76,11 +77,11 @@ fn main(rt: HostRuntime) -> io::Result<()> {
     let mut left = [0u8; 8193];
     let mut memory = [0u8; 8193];
     let mut schedule = [0u8; 65537];
-    let p = input::file(&rt, "program.ax", &mut program);
-    let k = input::file(&rt, "memory.ax", &mut kept);
-    let l = input::file(&rt, "memory.ax", &mut left);
-    let m = input::file(&rt, "memory.ax", &mut memory);
-    let s = input::file(&rt, "schedule.ax", &mut schedule);
+    let p = input::file(&rt, b"program.ax", &mut program);
+    let k = input::file(&rt, b"memory.ax", &mut kept);
+    let l = input::file(&rt, b"memory.ax", &mut left);
+    let m = input::file(&rt, b"memory.ax", &mut memory);
+    let s = input::file(&rt, b"schedule.ax", &mut schedule);
     prepare(
         &rt,
         &program[..p],
