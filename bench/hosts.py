@@ -1,7 +1,7 @@
-"""Makes the programs whose stack is measured: each calls one public entry of the library, or any of them, and is built without proof.
+"""Makes the programs whose stack is measured: each calls one public entry of the library, or any of them.
 
-A program reads its input from files, so that nothing of it is known to the compiler. It is compiled as `rt` compiles any program, with one difference: the
-measured entry, and the function of the program that calls it, stay functions of their own, so that where they begin can be seen.
+A program reads its input from files, so that nothing of it is known to the compiler. It is proved and compiled as `rt` does any program, with one difference:
+the measured entry, and the function of the program that calls it, stay functions of their own, so that where they begin can be seen.
 """
 
 import os
@@ -22,11 +22,13 @@ ENTRIES = [Entry(*entry) for entry in (
     ("inorder::step", "let m = %s; let a = m.step(program, memory); a.stop as u64" % MACHINE),
     ("inorder::enter", "let m = %s; let a = m.enter(program, &memory[..]); a.refusal as u64" % MACHINE),
     ("entry::enter", "let a = entry::enter(s, program, &memory[..]); a.refusal as u64"),
-    ("sound::is_sound", "if sound::is_sound(s, (program.len() / 8) as u32) { 0 } else { 4 }"),
-    ("judge::refusal_at", """match schedule::read(schedule[0], schedule[1], schedule[2], schedule[3]) {
+    ("sound::is_sound", "if sound::is_sound(s, (program.len().min(8192) / 8) as u32) { 0 } else { 4 }"),
+    ("judge::refusal_at", """if schedule.len() < 4 {
+        return 99;
+    }
+    match schedule::read(schedule[0], schedule[1], schedule[2], schedule[3]) {
         Command::Apply(rule, p) => judge::refusal_at(s, rule, p, &memory[..]) as u64,
-        Command::Issue(_) => 99,
-        Command::Malformed => 99,
+        Command::Issue(_) | Command::Malformed => 99,
     }"""),
     ("report::report", "let a = report::report(program, memory, schedule, out); a.written as u64"),
     ("report::contents", "let a = report::contents(s, &memory[..], out); a.written as u64"),
@@ -42,17 +44,17 @@ PARAMETERS = "s: State, program: &[u8], memory: &mut [u8], schedule: &[u8], out:
 ARGUMENTS = "s, program, memory, schedule, out"
 
 SOURCE = """// Calls the public entry that its argument numbers, on what its files have, and prints a number of the answer.
+#![tactic(auto)]
+
 mod bytes;
 mod input;
 mod states;
 
 use inorder::InOrder;
-use isa::InstrAddr;
-use isa::REGISTERS;
+use isa::{InstrAddr, REGISTERS};
 use rules::Command;
-use templates::Counter;
-use templates::Operand;
-use templates::State;
+use std::io;
+use templates::{Counter, Operand, State};
 
 fn machine_counter(s: State) -> InstrAddr {
     let c = s.counter;
@@ -65,8 +67,7 @@ fn machine_counter(s: State) -> InstrAddr {
 fn machine_registers(s: State) -> [inorder::Register; REGISTERS] {
     let given = s.registers;
     let mut rf = [inorder::Register { value: value::UNDEFINED }; REGISTERS];
-    let mut r: usize = 0;
-    while r < REGISTERS {
+    for r in 0..REGISTERS {
         let x = given[r];
         let o = x.holds;
         match o {
@@ -75,7 +76,6 @@ fn machine_registers(s: State) -> [inorder::Register; REGISTERS] {
             }
             Operand::Waits(_) => {}
         }
-        r += 1;
     }
     rf
 }
@@ -88,34 +88,34 @@ fn called(which: u32, %s) -> u64 {
 }
 
 // Takes more stack than any entry does, so that it is mapped and can be painted; without a state there is nothing to do.
-fn deepen() -> usize {
+fn deepen(rt: &HostRuntime) -> usize {
     let mut buf = [0u8; 262144];
-    input::file(b"state.ax", &mut buf)
+    input::file(rt, "state.ax", &mut buf)
 }
 
-fn main() {
-    if deepen() == 0 {
-        return;
+fn main(rt: HostRuntime) -> io::Result<()> {
+    if deepen(&rt) == 0 {
+        return Ok(());
     }
     let mut program = [0u8; 8192];
     let mut memory = [0u8; 8192];
     let mut schedule = [0u8; 65536];
     let mut given = [0u8; 4096];
     let mut out = [0u8; 32768];
-    let p = input::file(b"program.ax", &mut program);
-    let m = input::file(b"memory.ax", &mut memory);
-    let r = input::file(b"schedule.ax", &mut schedule);
-    let g = input::file(b"state.ax", &mut given);
+    let p = input::file(&rt, "program.ax", &mut program);
+    let m = input::file(&rt, "memory.ax", &mut memory);
+    let r = input::file(&rt, "schedule.ax", &mut schedule);
+    let g = input::file(&rt, "state.ax", &mut given);
     let s = states::read(&given[..g]);
-    let answer = called(input::times(1), s, &program[..p], &mut memory[..m], &schedule[..r], &mut out);
-    io::print_decimal(1, answer);
+    let answer = called(input::times(&rt, 1), s, &program[..p], &mut memory[..m], &schedule[..r], &mut out);
+    print!(rt; "{answer}")
 }
 """
 
-# What reads states and files in the programs of the repository reads them here.
+# What reads states and files in the programs of the repository reads them here, with the proofs of what has a loop.
 BORROWED = ("cases/src/bytes.rt", "cases/src/states.rt", "speed/src/input.rt")
-USES = ("records value text isa listing cells kernel inorder templates rows table sound rules entry schedule lines judge renaming report"
-        " io os libc")
+PROOFS = ("cases/proofs/states", "speed/proofs/input")
+USES = "records value buffers isa listing cells kernel inorder templates sound rules entry schedule lines judge renaming report"
 CLANG = """#!/bin/sh
 # The kit's clang; of what is compiled at -O3 the module and the words are kept.
 case " $* " in *" -O3 "*) /bin/cp module.bc "%(kept)s/module.bc" && printf '%%s\\n' "$@" > "%(kept)s/words" ;; esac
@@ -150,11 +150,12 @@ def link(path, to):
 
 
 class Maker:
-    """A folder with a repository of the library's crates and one more, and the kit with a clang that keeps what it is given."""
+    """A folder with a copy of the library's crates and one more, and the kit with a clang that keeps what it is given."""
 
     def __init__(self, root, folder):
         self.root, self.folder = root, os.path.realpath(folder)  # as the kernel names what it maps
         self.repository, self.kit = os.path.join(self.folder, "repository"), os.path.join(self.folder, "kit")
+        self.host = os.path.join(self.repository, "crates", "host")
         shutil.rmtree(self.folder, ignore_errors=True)
         self.copy_repository()
         self.copy_kit()
@@ -162,30 +163,48 @@ class Maker:
     def copy_repository(self):
         with open(os.path.join(self.root, "crates.txt"), encoding="utf-8") as file:
             write(os.path.join(self.repository, "crates.txt"), file.read() + "host: %s\n" % USES)
-        for crate in os.listdir(os.path.join(self.root, "crates")):
-            link(os.path.join(self.repository, "crates", crate), os.path.join(self.root, "crates", crate))
-        sources = os.path.join(self.repository, "crates", "host", "src")
-        os.makedirs(sources)
+        crates = os.path.join(self.root, "crates")
+        shutil.copytree(crates, os.path.join(self.repository, "crates"), ignore=shutil.ignore_patterns("out"))
+        os.makedirs(os.path.join(self.host, "src"))
         for path in BORROWED:
-            shutil.copy(os.path.join(self.root, "crates", path), sources)
+            shutil.copy(os.path.join(crates, path), os.path.join(self.host, "src"))
+        for path in PROOFS:
+            self.copy_proofs(os.path.join(crates, path), path.split("/")[0])
+
+    def copy_proofs(self, proofs, crate):
+        for at, _, names in os.walk(proofs):
+            to = os.path.join(self.host, "proofs", os.path.basename(proofs), os.path.relpath(at, proofs))
+            for name in names:
+                with open(os.path.join(at, name), encoding="utf-8") as file:
+                    write(os.path.join(to, name), file.read().replace("Rattle.%s." % crate, "Rattle.host."))
 
     def copy_kit(self):
         guide = subprocess.run(["rt", "doc"], capture_output=True, text=True, check=True).stdout.strip()
-        real = os.path.dirname(os.path.dirname(guide))
-        own = os.path.join("on", os.uname().machine)
-        tools = os.path.join(own, "toolchain")
-        for part in ("libs", "lib", "logic", "KIT-ID", own + "/bin", own + "/rlib", tools + "/lib", tools + "/bin/ld.lld", tools + "/bin/llvm-ar"):
-            link(os.path.join(self.kit, part), os.path.join(real, part))
-        self.tools, self.clang = os.path.join(self.kit, tools), os.path.join(real, tools, "bin", "clang")
-        self.linker = os.path.join(self.kit, own, "bin", "rattle-link")
+        real = os.path.dirname(guide)
+        for part in os.listdir(real):
+            if part not in ("bin", "toolchain"):
+                link(os.path.join(self.kit, part), os.path.join(real, part))
+        for folder in ("bin", os.path.join("toolchain", "bin")):
+            for tool in os.listdir(os.path.join(real, folder)):
+                if tool not in ("rt", "rtlib.py", "clang"):
+                    link(os.path.join(self.kit, folder, tool), os.path.join(real, folder, tool))
+        for script in ("rt", "rtlib.py"):  # they look for the kit from where they stand
+            shutil.copy(os.path.join(real, "bin", script), os.path.join(self.kit, "bin"))
+        self.tools, self.clang = os.path.join(self.kit, "toolchain"), os.path.join(real, "toolchain", "bin", "clang")
+        link(os.path.join(self.tools, "lib"), os.path.join(real, "toolchain", "lib"))
         write(os.path.join(self.tools, "bin", "clang"), CLANG % {"kept": self.folder, "clang": self.clang}, 0o755)
+
+    def rt(self, rt, verb):
+        """Proves the program, and runs it where the verb says so, on nothing."""
+        called = subprocess.run([rt, verb], cwd=self.host, stdin=subprocess.DEVNULL, capture_output=True, text=True)
+        if called.returncode != 0:
+            sys.exit("rt %s: %s%s" % (verb, called.stdout, called.stderr))
 
     def module(self, entries):
         """The module of a program that calls these entries, as text, before it is optimised."""
-        write(os.path.join(self.repository, "crates", "host", "src", "main.rt"), source(entries))
-        tried = subprocess.run(["rt", "try", "host"], cwd=self.repository, env=dict(os.environ, RATTLE_HOME=self.kit), capture_output=True, text=True)
-        if tried.returncode != 0:
-            sys.exit("rt try: %s%s" % (tried.stdout, tried.stderr))
+        write(os.path.join(self.host, "src", "main.rt"), source(entries))
+        self.rt("rt", "check")  # the kit itself, which takes over what was proved of the same crates before
+        self.rt(os.path.join(self.kit, "bin", "rt"), "run")
         return subprocess.run([self.clang, "-x", "ir", "-S", "-emit-llvm", "-O0", "-o", "-", os.path.join(self.folder, "module.bc")],
                               capture_output=True, text=True, check=True).stdout
 
@@ -197,8 +216,9 @@ class Maker:
         with open(os.path.join(self.folder, "words"), encoding="utf-8") as file:
             words = file.read().splitlines()
         subprocess.run([self.clang] + words, cwd=self.folder, check=True)
-        subprocess.run([self.linker, "--target", "x86_64-unknown-linux-gnu", "--toolchain", self.tools, "-o", program,
-                        os.path.join(self.folder, "module.o"), os.path.join(self.kit, "lib", "libos_c.a")], capture_output=True, check=True)
+        libraries = [os.path.join(self.kit, "c", name) for name in ("libos_c.a", "liblibc_c.a")]
+        subprocess.run([os.path.join(self.kit, "bin", "rattle-link"), "--target", "x86_64-unknown-linux-gnu", "--toolchain", self.tools, "-o", program,
+                        os.path.join(self.folder, "module.o"), *libraries], capture_output=True, check=True)
 
 
 def symbol(module, entry):

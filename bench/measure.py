@@ -114,10 +114,10 @@ def version(command):
 def installed(rust):
     """The machines that can be measured, and a line on each."""
     machines = {"ours": Native("crates/speed/out/speed")}
-    print("ours: -O3, as `rt run` builds it, %s" % version(["rt", "version"]))
+    print("ours: -O3 for x86-64-v2, as `rt run` builds it, %s" % version(["rt", "version"]))
     if os.path.exists(rust):
         machines["Rust"] = Native(rust)
-        print("Rust: -C opt-level=3, %s" % version(["rustc", "--version"]))
+        print("Rust: -C opt-level=3 -C target-cpu=x86-64-v2, %s" % version(["rustc", "--version"]))
     else:
         print("Rust: rustc is not installed, and its columns stay empty")
     if shutil.which("maude"):
