@@ -90,7 +90,7 @@ fn called(which: u32, %s) -> u64 {
 // Takes more stack than any entry does, so that it is mapped and can be painted; without a state there is nothing to do.
 fn deepen(rt: &HostRuntime) -> usize {
     let mut buf = [0u8; 262144];
-    input::file(rt, "state.ax", &mut buf)
+    input::file(rt, b"state.ax", &mut buf)
 }
 
 fn main(rt: HostRuntime) -> io::Result<()> {
@@ -102,10 +102,10 @@ fn main(rt: HostRuntime) -> io::Result<()> {
     let mut schedule = [0u8; 65536];
     let mut given = [0u8; 4096];
     let mut out = [0u8; 32768];
-    let p = input::file(&rt, "program.ax", &mut program);
-    let m = input::file(&rt, "memory.ax", &mut memory);
-    let r = input::file(&rt, "schedule.ax", &mut schedule);
-    let g = input::file(&rt, "state.ax", &mut given);
+    let p = input::file(&rt, b"program.ax", &mut program);
+    let m = input::file(&rt, b"memory.ax", &mut memory);
+    let r = input::file(&rt, b"schedule.ax", &mut schedule);
+    let g = input::file(&rt, b"state.ax", &mut given);
     let s = states::read(&given[..g]);
     let answer = called(input::times(&rt, 1), s, &program[..p], &mut memory[..m], &schedule[..r], &mut out);
     print!(rt; "{answer}")
