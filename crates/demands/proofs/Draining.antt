@@ -11,7 +11,8 @@ use Rattle.rules.specs.Drain.{Drained, further, oldest, drain_from, drain}
 use Rattle.rules.specs.Moves.{Move, move, Refused, Stuck, and_then, continued}
 use Rattle.rules.specs.OldestFirst.{Oldest}
 use Rattle.demands.specs.OldestFirst.{Leaves, OldestFirst, DrainsBy}
-use Rattle.demands.proofs.Weight.{weight, apply_lowers_weight}
+use Rattle.demands.proofs.Weight.{weight}
+use Rattle.demands.proofs.Lowering.{apply_lowers_weight}
 use Rattle.demands.proofs.Turns.{on_accepted, continued_bounded}
 use Rattle.rules.proofs.Oldest.{Found, found, one-oldest, oldest_is, refused_not}
 

@@ -7,6 +7,7 @@ pub mod Early
 pub mod Keeps
 pub mod Follows
 pub mod Weight
+pub mod Lowering
 pub mod Ending
 pub mod Turns
 pub mod Draining

@@ -27,7 +27,8 @@ use Rattle.rules.specs.Schedules.{obeyed, issues}
 use Rattle.demands.proofs.Flush.{outcome}
 use Rattle.demands.proofs.Keeps.{apply_keeps_outcome}
 use Rattle.demands.proofs.Follows.{issue-steps-outcome}
-use Rattle.demands.proofs.Weight.{weight, at_most_four_each, apply_lowers_weight}
+use Rattle.demands.proofs.Weight.{weight, at_most_four_each}
+use Rattle.demands.proofs.Lowering.{apply_lowers_weight}
 
 -- ---- what an accepted rule leaves
 
