@@ -1,7 +1,7 @@
 #!/usr/bin/env python3
 """Brings the names of this repository's own definitions, fields and lemmas to snake case, once, behind port.py.
 
-usage: python3 tools/respell.py        at the top of the repository, right after /opt/rattle/port/port.py
+usage: python3 tools/respell.py        at the top of the repository, right after the kit's port/port.py
 
 Words come to snake case; types, records and modules keep their capitals, and so does a name from src/. A dash stays only where it joins
 the names of two definitions. What is respelled and what it becomes is printed, a line each, and written to docs/respelled.txt.
