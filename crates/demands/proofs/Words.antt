@@ -140,7 +140,7 @@ words_of [] h = tt
 words_of (Undefined ∷ m) h = (omega arith, words_of m h.1)
 words_of (Word w ∷ m) h = (h.0, words_of m h.1)
 
--- ---- an operation's result_of
+-- ---- an operation's result
 
 low_word : (n : ℕ) → low n < 2 ^ 32
 low_word n = omega arith

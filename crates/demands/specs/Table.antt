@@ -28,7 +28,7 @@ use Rattle.rules.specs.Schedule.{obey}
 -- ---- cases
 
 pub data Case : Type 0 where
-  -- an operation of two values, and its result_of
+  -- an operation of two values, and its result
   computes : ℕ → Value → Value → Value → Case
   -- an instruction record's bytes, and what they are read as
   reads : List ℕ → Try Instr → Case

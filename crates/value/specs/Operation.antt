@@ -1,4 +1,4 @@
--- The operations: each takes two words, and an operand that is undefined makes the result_of undefined.
+-- The operations: each takes two words, and an operand that is undefined makes the result undefined.
 use Rattle.std.specs.Prelude.{ℕ, ◌+◌, ◌-◌, ◌*◌, ◌%◌, ◌^◌, cond, ℤ, ◌==◌, int_div, int_lt}
 use Rattle.std.specs.Int.{w32}
 use Rattle.std.proofs.Common.{to_z, of_z}

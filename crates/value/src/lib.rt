@@ -74,7 +74,7 @@ fn smaller(a: u32, b: u32) -> u32
     if signed(a) < signed(b) { 1 } else { 0 }
 }
 
-// The result_of of an operation by its number; an undefined operand gives undefined.
+// The result of an operation by its number; an undefined operand gives undefined.
 pub fn operate(operation: u8, first: Value, second: Value) -> Value
     ensures { result ≡ result_of operation first second }
 {
