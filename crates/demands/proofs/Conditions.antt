@@ -27,7 +27,6 @@ use Rattle.templates.specs.Templates.{any_reg}
 use Rattle.templates.specs.Machine.{Itb, nothing, any_holds, any_memory, Mach, room}
 use Rattle.sound.proofs.Basics.{by_test}
 use Rattle.rules.specs.declared.Rule.{Rule}
-use Rattle.rules.specs.declared.Rule.TheVariants as Rule
 use Rattle.rules.specs.declared.Command.{Command}
 use Rattle.rules.specs.declared.Command.TheVariants.{Malformed, Issue, Apply}
 use Rattle.records.specs.Refusal.{no_instruction, stalled, full, bad_tag, needs_tag, is_undefined, outside}

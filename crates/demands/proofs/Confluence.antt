@@ -26,7 +26,6 @@ use Rattle.templates.specs.Templates.{register, fill_regs}
 use Rattle.templates.specs.Machine.{Itb, ITB, any_makes, any_memory, fill_all, Mach, mach}
 use Rattle.sound.proofs.Soundness.{Sound, value_made_once, straight}
 use Rattle.rules.specs.declared.Rule.{Rule}
-use Rattle.rules.specs.declared.Rule.TheVariants as Rule
 use Rattle.rules.specs.Rules.{Step, accepted, refused, holding, tried, known, becomes, go_to, rule, apply}
 use Rattle.rules.specs.Drain.{drain}
 use Rattle.rules.proofs.Environment.{Env, resolve}

@@ -22,7 +22,6 @@ use Rattle.templates.proofs.Places.{mach_of-state_of, held-length}
 use Rattle.sound.proofs.Soundness.{Sound}
 use Rattle.sound.proofs.Decides.{sound_said}
 use Rattle.rules.specs.declared.Rule.{Rule}
-use Rattle.rules.specs.declared.Rule.TheVariants as Rule
 use Rattle.rules.specs.declared.Command.TheVariants.{Apply}
 use Rattle.rules.specs.Rules.{Step, accepted, refused, apply}
 use Rattle.rules.specs.Schedule.{obey}

@@ -29,7 +29,6 @@ use Rattle.sound.specs.Sound.{is_jz}
 use Rattle.sound.specs.Sound as Sound
 use Rattle.sound.proofs.Soundness.{Ready, WorkOk, RegistersOk, Sound}
 use Rattle.rules.specs.declared.Rule.{Rule}
-use Rattle.rules.specs.declared.Rule.TheVariants as Rule
 use Rattle.rules.specs.Rules.{accepted, refused, tried, known, becomes, go_to, rule}
 use Rattle.rules.specs.Rules as Rules
 use Rattle.rules.specs.Drain.{asks}

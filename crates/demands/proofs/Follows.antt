@@ -14,7 +14,6 @@ use Rattle.isa.specs.declared.InstrAddr.{InstrAddr}
 use Rattle.isa.specs.declared.Reg.{Reg}
 use Rattle.isa.specs.declared.Tag.{Tag}
 use Rattle.isa.specs.declared.Instr.{Instr}
-use Rattle.isa.specs.declared.Instr.TheVariants as Instr
 use Rattle.isa.specs.Program.{present}
 use Rattle.kernel.specs.Kernel.{next, read_at, write_at, branch, Run, going, stopped, attempt}
 use Rattle.templates.specs.declared.Operand.TheVariants.{Known, Waits}

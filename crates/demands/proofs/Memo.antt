@@ -16,7 +16,6 @@ use Rattle.value.specs.declared.Value.TheVariants.{Undefined, Word}
 use Rattle.isa.specs.declared.InstrAddr.{InstrAddr}
 use Rattle.isa.specs.declared.Tag.{Tag}
 use Rattle.isa.specs.declared.Instr.{Instr}
-use Rattle.isa.specs.declared.Instr.TheVariants as Instr
 use Rattle.isa.specs.Program.{present}
 use Rattle.cells.specs.Cells.{inside, load_from}
 use Rattle.kernel.specs.Kernel.{instr_addr, next, read_at, write_at, target}
@@ -34,7 +33,6 @@ use Rattle.sound.proofs.Basics.{by_test, neither}
 use Rattle.sound.proofs.Soundness.{CounterOk, not_empty}
 use Rattle.sound.proofs.Decides.{new_said, sound_said}
 use Rattle.rules.specs.declared.Rule.{Rule}
-use Rattle.rules.specs.declared.Rule.TheVariants as Rule
 use Rattle.rules.specs.declared.Command.{Command}
 use Rattle.rules.specs.declared.Command.TheVariants.{Malformed, Issue, Apply}
 use Rattle.rules.specs.Rules.{Step, accepted, refused, tried, known, go_to, rule, apply, is_fresh, tag_ok, issued, issue_at, issue_from, issue}

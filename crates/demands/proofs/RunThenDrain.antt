@@ -10,7 +10,7 @@ use lib.Dec.{eqb, leb}
 use lib.ListN.{length, take, get_elem?, length-set, length-map}
 use borrow.Author.Tests.{eq-eqb, leb-true, le-leb}
 use Rattle.records.specs.Records.{is_whole}
-use Rattle.records.specs.Scan.{verdict, accepted}
+use Rattle.records.specs.Scan.{verdict}
 use Rattle.records.specs.Refusal.{bad_length}
 use Rattle.records.proofs.Image as Image
 use Rattle.value.specs.declared.Value.{Value}

@@ -4,15 +4,13 @@ use native.Mathlib.Omega.{arith}
 use mathlib.Core.Path.{◌≡◌, refl, sym, ap, ap₂, subst, ◌∙◌}
 use mathlib.Core.List.{List, [], ◌∷◌, ◌++◌, map}
 use mathlib.Core.Option.{Option, some}
-use mathlib.Core.Option as Option
 use lib.ListN.{length, get_elem?}
 use Rattle.value.specs.declared.Value.{Value}
 use Rattle.isa.specs.declared.InstrAddr.{InstrAddr}
 use Rattle.isa.specs.declared.Instr.{Instr}
-use Rattle.isa.specs.declared.Instr.TheVariants as Instr
 use Rattle.isa.specs.Program.{present, program}
 use Rattle.kernel.specs.Kernel.{Run, going, stopped}
-use Rattle.templates.specs.Machine.{Mach, mach, start}
+use Rattle.templates.specs.Machine.{Mach, mach}
 use Rattle.sound.specs.Sound as Sound
 use Rattle.sound.proofs.Soundness.{RegistersOk, Sound}
 use Rattle.sound.proofs.Decides.{sound_said}

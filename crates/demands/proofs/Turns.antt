@@ -6,9 +6,8 @@ use mathlib.Core.Path.{◌≡◌, refl, ap, ◌∙◌}
 use mathlib.Core.List.{List, [], ◌∷◌}
 use lib.ListN.{length}
 use Rattle.value.specs.declared.Value.{Value}
-use Rattle.isa.specs.declared.InstrAddr.{InstrAddr}
 use Rattle.isa.specs.declared.Instr.{Instr}
-use Rattle.kernel.specs.Kernel.{Run, stopped}
+use Rattle.kernel.specs.Kernel.{Run}
 use Rattle.templates.specs.Machine.{Mach}
 use Rattle.sound.proofs.Soundness.{Sound}
 use Rattle.rules.specs.declared.Command.{Command}
@@ -21,7 +20,6 @@ use Rattle.isa.proofs.Formed.{AllFormed}
 use Rattle.rules.proofs.Keeping.{apply_keeps_sound, obey_keeps_sound}
 use Rattle.inorder.specs.declared.Register.{Register}
 use Rattle.inorder.specs.Machine.{steps}
-use Rattle.inorder.proofs.Laws.{stays}
 use Rattle.rules.specs.Moves.{Move, move, and_then, in_turn, continued}
 use Rattle.rules.specs.Schedules.{obeyed, issues}
 use Rattle.demands.proofs.Flush.{outcome}

@@ -21,7 +21,6 @@ use Rattle.value.specs.declared.Value.TheVariants.{Undefined, Word}
 use Rattle.value.specs.Operation.{low, signed, less, div, result_of}
 use Rattle.isa.specs.declared.InstrAddr.{InstrAddr}
 use Rattle.isa.specs.declared.Instr.{Instr}
-use Rattle.isa.specs.declared.Instr.TheVariants as Instr
 use Rattle.isa.specs.declared.Reg.{Reg}
 use Rattle.isa.specs.declared.Tag.{Tag}
 use Rattle.isa.specs.Instruction.{parse, registers}

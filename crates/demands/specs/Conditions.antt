@@ -8,7 +8,6 @@ use Rattle.value.specs.declared.Value.TheVariants.{Undefined, Word}
 use Rattle.value.specs.Operation.{undefined}
 use Rattle.isa.specs.declared.Tag.{Tag}
 use Rattle.isa.specs.declared.Instr.{Instr}
-use Rattle.isa.specs.declared.Instr.TheVariants as Instr
 use Rattle.templates.specs.declared.Operand.{Operand}
 use Rattle.templates.specs.declared.Operand.TheVariants.{Known, Waits}
 use Rattle.templates.specs.declared.Work.{Work}
@@ -19,7 +18,6 @@ use Rattle.templates.specs.Templates.{makes, operand_at, any_reg}
 use Rattle.templates.specs.Machine.{Itb, nothing, any_holds, any_memory, Mach, room}
 use Rattle.sound.specs.Sound.{is_jz}
 use Rattle.rules.specs.declared.Rule.{Rule}
-use Rattle.rules.specs.declared.Rule.TheVariants as Rule
 use Rattle.rules.specs.declared.Command.{Command}
 use Rattle.rules.specs.declared.Command.TheVariants.{Malformed, Issue, Apply}
 use Rattle.rules.specs.Rules.{tag_ok}

@@ -7,7 +7,6 @@ use Rattle.value.specs.declared.Value.TheVariants.{Word}
 use Rattle.value.specs.Operation.{undefined, result_of}
 use Rattle.isa.specs.declared.Tag.{Tag}
 use Rattle.isa.specs.declared.Instr.{Instr}
-use Rattle.isa.specs.declared.Instr.TheVariants as Instr
 use Rattle.isa.specs.Instruction.{reg, read_of}
 use Rattle.kernel.specs.Kernel.{instr_addr}
 use Rattle.templates.specs.declared.Operand.{Operand}
