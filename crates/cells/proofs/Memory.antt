@@ -12,7 +12,7 @@ use lib.ListN.{length, get_or, set, get_elem?, length-map}
 use lib.Seq.{sets, set_out}
 use borrow.Author.Tests.{eqb-true, eq-eqb, le-leb, le-ltb}
 use Rattle.records.specs.declared.Record.{Record}
-use Rattle.records.specs.Refusal.{bad_cell}
+use Rattle.records.specs.declared.Refusal.TheVariants.{BadCell}
 use Rattle.records.specs.Records
 use Rattle.records.specs.Records.{records, bytes, replaced}
 use Rattle.records.specs.Scan.{accepted, leading}
@@ -92,7 +92,7 @@ records_again (r ∷ rs) h = first (is_cell r) refl h (λ l. records_again rs l)
 pub image-cells : (b : List ℕ) → scan_of b ≡ accepted → ((i : ℕ) → get_or b i 0 < 256) → Formed b
 unfolding cells image scan_of
 image-cells b e small =
-    let w = scan_says bad_cell is_cell b (λ z. omega arith) e in
+    let w = scan_says BadCell is_cell b e in
     ap Records.image (records_again (records b) w.formed) ∙ image-records b small w.even
 
 -- every word of m is a word

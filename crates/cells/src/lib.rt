@@ -2,20 +2,11 @@
 #![tactic(auto)]
 
 ghost use Rattle.std.specs.Prelude.{◌≡◌, ◌^◌, ◌<◌};
-ghost use Rattle.records.specs.Records.{records};
-ghost use Rattle.records.specs.Scan.{leading};
-ghost use Rattle.cells.specs.Cells.{value_of, is_cell, record_of, cells, scan_of, load_from, answer, Stores};
+ghost use Rattle.cells.specs.Cells.{value_of, is_cell, record_of, cells, scan_of, load_from, Stores};
 
 use isa::DataAddr;
-use records::{Found, Record, Verdict, refusal};
+use records::{Fault, Form, Record, Refusal};
 use value::Value;
-
-// The value that was loaded, or the number for no.
-#[derive(Clone, Copy)]
-pub enum Loaded {
-    Is(Value),
-    Refused(u8),
-}
 
 fn value_of(r: Record) -> Value
     ensures { result ≡ value_of r }
@@ -54,53 +45,48 @@ fn record_of(v: Value) -> Record
     }
 }
 
-// How many records from the front are cells.
-fn leading_cells(memory: &[u8]) -> usize
-    ensures { result ≡ leading is_cell (records memory.now) }
-{
-    let mut n: usize = 0;
-    loop {
-        match records::read(memory, n) {
-            Found::Is(r) => {
-                if !is_cell(r) {
-                    return n;
-                }
-                n += 1;
-            }
-            Found::Nothing => return n,
-        }
+// The records of a memory.
+struct MemoryForm;
+
+impl Form for MemoryForm {
+    ghost use Rattle.records.specs.declared.Refusal.TheVariants.{BadCell};
+    ghost use Rattle.cells.specs.Cells.{is_cell};
+
+    ghost right = { is_cell };
+
+    ghost REFUSAL = { BadCell };
+
+    const REFUSAL: Refusal = Refusal::BadCell;
+
+    fn is_right(r: Record) -> bool {
+        is_cell(r)
     }
 }
 
-pub fn scan(memory: &[u8]) -> Verdict
+#[tactic(auto, unfolding(crate::specs::Cells::scan_of))]
+pub fn scan(memory: &[u8]) -> Result<(), Fault>
     ensures { result ≡ scan_of memory.now }
 {
-    if !records::is_whole(memory) {
-        return Verdict {
-            refusal: refusal::BAD_LENGTH,
-            number: 0,
-        };
-    }
-    records::judge(refusal::BAD_CELL, leading_cells(memory), memory.len() / 8)
+    records::scan::<MemoryForm>(memory)
 }
 
-pub fn load(memory: &[u8], at: DataAddr) -> Loaded
-    ensures { result ≡ answer (load_from (cells memory.now) at) }
+pub fn load(memory: &[u8], at: DataAddr) -> Result<Value, Refusal>
+    ensures { result ≡ load_from (cells memory.now) at }
 {
     match records::read(memory, at.0 as usize) {
-        Found::Is(r) => Loaded::Is(value_of(r)),
-        Found::Nothing => Loaded::Refused(refusal::OUTSIDE),
+        Some(r) => Ok(value_of(r)),
+        None => Err(Refusal::Outside),
     }
 }
 
-// Writes the cell, and answers 0 or the refusal.
-pub fn store(memory: &mut [u8], at: DataAddr, v: Value) -> u8
+// Writes the cell, if memory has it.
+pub fn store(memory: &mut [u8], at: DataAddr, v: Value) -> Result<(), Refusal>
     ensures { Stores memory.old at v result memory.new }
 {
     let number = at.0 as usize;
     if number >= memory.len() / 8 {
-        return refusal::OUTSIDE;
+        return Err(Refusal::Outside);
     }
     records::write(memory, number, record_of(v));
-    0
+    Ok(())
 }

@@ -6,7 +6,8 @@ use mathlib.Core.List.{List, [], ◌∷◌}
 use mathlib.Core.Option.{some}
 use lib.ListN.{get_elem?}
 use Rattle.records.specs.declared.Record.{Record}
-use Rattle.records.specs.Try.{Try, got, fails}
+use Rattle.std.specs.Prelude.{Result, Ok, Err}
+use Rattle.records.specs.declared.Refusal.{Refusal}
 use Rattle.records.specs.Records.{records}
 use Rattle.records.proofs.Basics.{same_some, some_not_none}
 use Rattle.isa.specs.declared.Instr.{Instr}
@@ -25,9 +26,9 @@ found_formed (j ∷ prog) zero f e = ap is_formed (same_some e refl) ∙ f.0
 found_formed (j ∷ prog) (suc n) f e = found_formed prog n f.1 e
 
 -- a program's records are read only as far as they are well formed
-leads_formed : (t : Try Instr) (is : List Instr) → ((i : Instr) → t ≡ got i → is_formed i ≡ true) → AllFormed is → AllFormed (leads t is)
-leads_formed (got i) is h f = (h i refl, f)
-leads_formed (fails n) is h f = tt
+leads_formed : (t : Result Instr Refusal) (is : List Instr) → ((i : Instr) → t ≡ Ok i → is_formed i ≡ true) → AllFormed is → AllFormed (leads t is)
+leads_formed (Ok i) is h f = (h i refl, f)
+leads_formed (Err n) is h f = tt
 
 instructions_formed : (rs : List Record) → AllFormed (instructions rs)
 instructions_formed [] = tt

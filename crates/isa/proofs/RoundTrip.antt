@@ -8,8 +8,9 @@ use lib.Dec.{eqb, leb}
 use lib.ListN.{length, get_or}
 use borrow.Author.Tests.{eqb-true}
 use Rattle.records.specs.declared.Record.{Record}
-use Rattle.records.specs.Refusal.{bad_length, bad_instruction}
-use Rattle.records.specs.Try.{Try, got, fails}
+use Rattle.records.specs.declared.Refusal.TheVariants.{BadLength, BadInstruction}
+use Rattle.std.specs.Prelude.{Result, Ok, Err}
+use Rattle.records.specs.declared.Refusal.{Refusal}
 use Rattle.records.specs.Records.{record_from, records, bytes, image}
 use Rattle.records.proofs.Basics.{both, got_not_fails}
 use Rattle.records.proofs.Bytes.{record_of-bytes}
@@ -21,7 +22,7 @@ use Rattle.isa.specs.Instruction.{reg, last_operation, is_reg, is_formed, if_for
 
 -- ---- a record and its instruction
 
-pub parse-record : (i : Instr) → is_formed i ≡ true → parse (record_of i) ≡ got i
+pub parse-record : (i : Instr) → is_formed i ≡ true → parse (record_of i) ≡ Ok i
 unfolding parse
 parse-record (Loadc r k) f = rw f refl
 parse-record (Loadpc r) f = rw f refl
@@ -31,10 +32,10 @@ parse-record (Load r r1) f = rw f refl
 parse-record (Store r1 r2) f = rw f refl
 
 -- the zero bytes, the form, and the instruction
-accepted : (unused : Bool) (j i : Instr) → if_formed unused j ≡ got i → (unused ≡ true) × (is_formed j ≡ true) × (j ≡ i)
+accepted : (unused : Bool) (j i : Instr) → if_formed unused j ≡ Ok i → (unused ≡ true) × (is_formed j ≡ true) × (j ≡ i)
 accepted unused j i e = go (unused && is_formed j) refl e
   where
-    go : (t : Bool) → unused && is_formed j ≡ t → cond t (got j) (fails bad_instruction) ≡ got i → (unused ≡ true) × (is_formed j ≡ true) × (j ≡ i)
+    go : (t : Bool) → unused && is_formed j ≡ t → cond t (Ok j) (Err BadInstruction) ≡ Ok i → (unused ≡ true) × (is_formed j ≡ true) × (j ≡ i)
     go true f e = let p = both unused (is_formed j) f in (p.0, p.1, cc)
     go false f e = got_not_fails e
 
@@ -43,12 +44,12 @@ pub record Parsed (r : Record) (i : Instr) : Type 0 where
   pub formed : is_formed i ≡ true
   pub same : record_of i ≡ r
 
-parsed : {r : Record} (unused : Bool) (j i : Instr) → if_formed unused j ≡ got i → (unused ≡ true → record_of j ≡ r) → Parsed r i
+parsed : {r : Record} (unused : Bool) (j i : Instr) → if_formed unused j ≡ Ok i → (unused ≡ true → record_of j ≡ r) → Parsed r i
 parsed unused j i e same =
     let a = accepted unused j i e in
     record { formed = ap is_formed (sym a.2) ∙ a.1; same = ap record_of (sym a.2) ∙ same a.0 }
 
-either : {P : Type 0} (t : Bool) (a b : Try Instr) (i : Instr) → (t ≡ true → a ≡ got i → P) → (b ≡ got i → P) → cond t a b ≡ got i → P
+either : {P : Type 0} (t : Bool) (a b : Result Instr Refusal) (i : Instr) → (t ≡ true → a ≡ Ok i → P) → (b ≡ Ok i → P) → cond t a b ≡ Ok i → P
 either true a b i f g e = f refl e
 either false a b i f g e = g e
 
@@ -81,7 +82,7 @@ module _ (r : Record) (i : Instr) where
   is : (n : ℕ) → code n ≡ true → r.b0 ≡ n
   is n e = eqb-true r.b0 n e
 
-  pub record-parsed : parse r ≡ got i → Parsed r i
+  pub record-parsed : parse r ≡ Ok i → Parsed r i
   unfolding parse
   record-parsed =
       either (code 1) _ _ i
@@ -99,7 +100,7 @@ module _ (r : Record) (i : Instr) where
       got_not_fails)))))
 
 -- an instruction's record spells it
-spelled-record : (i : Instr) → is_formed i ≡ true → spelled (record_of i) ≡ got i
+spelled-record : (i : Instr) → is_formed i ≡ true → spelled (record_of i) ≡ Ok i
 unfolding spelled
 spelled-record (Loadc r k) f = refl
 spelled-record (Loadpc r) f = refl
@@ -109,22 +110,22 @@ spelled-record (Jz r1 r2) f = refl
 spelled-record (Load r r1) f = refl
 spelled-record (Store r1 r2) f = refl
 
-pub record_spells : (r : Record) (i : Instr) → parse r ≡ got i → spelled r ≡ got i
+pub record_spells : (r : Record) (i : Instr) → parse r ≡ Ok i → spelled r ≡ Ok i
 record_spells r i e =
     let p = record-parsed r i e in
     ap spelled (sym p.same) ∙ spelled-record i p.formed
 
 -- ---- bytes and instruction
 
-pub read-written : (i : Instr) → is_formed i ≡ true → (record_of i).word < 2 ^ 32 → read_of (bytes (record_of i)) ≡ got i
+pub read-written : (i : Instr) → is_formed i ≡ true → (record_of i).word < 2 ^ 32 → read_of (bytes (record_of i)) ≡ Ok i
 unfolding read_of
 read-written i f h = ap parse (record_of-bytes (record_of i) h) ∙ parse-record i f
 
-pub written_read : (b : List ℕ) (i : Instr) → ((k : ℕ) → get_or b k 0 < 256) → read_of b ≡ got i → bytes (record_of i) ≡ b
+pub written_read : (b : List ℕ) (i : Instr) → ((k : ℕ) → get_or b k 0 < 256) → read_of b ≡ Ok i → bytes (record_of i) ≡ b
 unfolding read_of
 written_read b i small e = eight-bytes (eqb (length b) 8) refl e
   where
-    eight-bytes : (t : Bool) → eqb (length b) 8 ≡ t → cond t (parse (record_from b 0)) (fails bad_length) ≡ got i → bytes (record_of i) ≡ b
+    eight-bytes : (t : Bool) → eqb (length b) 8 ≡ t → cond t (parse (record_from b 0)) (Err BadLength) ≡ Ok i → bytes (record_of i) ≡ b
     eight-bytes true f e =
         let is-eight : length b ≡ 8 = eqb-true (length b) 8 f in
         let whole : length b % 8 ≡ 0 = omega arith in
@@ -136,5 +137,5 @@ written_read b i small e = eight-bytes (eqb (length b) 8) refl e
     eight-bytes false f e = got_not_fails e
 
 -- so two records of one instruction are the same
-pub one-record : (b c : List ℕ) (i : Instr) → ((k : ℕ) → get_or b k 0 < 256) → ((k : ℕ) → get_or c k 0 < 256) → read_of b ≡ got i → read_of c ≡ got i → b ≡ c
+pub one-record : (b c : List ℕ) (i : Instr) → ((k : ℕ) → get_or b k 0 < 256) → ((k : ℕ) → get_or c k 0 < 256) → read_of b ≡ Ok i → read_of c ≡ Ok i → b ≡ c
 one-record b c i small_b small-c e f = sym (written_read b i small_b e) ∙ written_read c i small-c f

@@ -2,43 +2,35 @@
 #![tactic(auto)]
 
 ghost use Rattle.std.specs.Prelude.{◌≡◌};
-ghost use Rattle.records.specs.Records.{records};
-ghost use Rattle.records.specs.Scan.{leading};
-ghost use Rattle.isa.specs.Instruction.{is_formed, if_formed, parse, spelled, answer, read_of, record_of};
-ghost use Rattle.isa.specs.Program.{fetched, decoded, is_instr, scan_of, Wrote};
+ghost use Rattle.isa.specs.Instruction.{is_reg, is_formed, if_formed, parse, spelled, read_of, record_of};
+ghost use Rattle.isa.specs.Program.{fetched, decoded, scan_of, Wrote};
 
-use records::{Found, Record, Verdict, refusal};
+use records::{Fault, Form, Record, Refusal};
 
 // Registers are 0 to one below this.
 pub const REGISTERS: usize = 32;
 
-// The same, as wide as a register's name.
-const REGISTER_NAMES: u8 = 32;
-
 // Operations are 0 to this one.
 pub const LAST_OPERATION: u8 = 4;
 
-// The same, as wide as a record's word.
-const LAST_OPERATION_IN_RECORD: u32 = 4;
-
 // A place in the program.
-#[derive(Clone, Copy)]
+#[derive(Clone, Copy, PartialEq, Eq)]
 pub struct InstrAddr(pub u32);
 
 // A place in memory.
-#[derive(Clone, Copy)]
+#[derive(Clone, Copy, PartialEq, Eq)]
 pub struct DataAddr(pub u32);
 
 // The name of a register.
-#[derive(Clone, Copy)]
+#[derive(Clone, Copy, PartialEq, Eq)]
 pub struct Reg(pub u8);
 
 // A renaming tag; 0 means no tag.
-#[derive(Clone, Copy)]
+#[derive(Clone, Copy, PartialEq, Eq)]
 pub struct Tag(pub u8);
 
-// The destination stands first, as in the listing.
-#[derive(Clone, Copy)]
+// The destination stands first, as in the listing. An operation is a number: one over the last is malformed, and refused.
+#[derive(Clone, Copy, PartialEq, Eq)]
 pub enum Instr {
     Loadc(Reg, u32),
     Loadpc(Reg),
@@ -48,187 +40,169 @@ pub enum Instr {
     Store(Reg, Reg),
 }
 
-// The instruction that was read, or the number for no.
-#[derive(Clone, Copy)]
-pub enum Reading {
-    Is(Instr),
-    Refused(u8),
+fn is_reg(r: Reg) -> bool
+    ensures { result ≡ is_reg r }
+{
+    (r.0 as usize) < REGISTERS
 }
 
 fn is_formed(i: Instr) -> bool
     ensures { result ≡ is_formed i }
 {
     match i {
-        Instr::Loadc(r, _) => r.0 < REGISTER_NAMES,
-        Instr::Loadpc(r) => r.0 < REGISTER_NAMES,
-        Instr::Op(r, op, r1, r2) => (r.0 < REGISTER_NAMES)
-            & (r1.0 < REGISTER_NAMES)
-            & (r2.0 < REGISTER_NAMES)
-            & (op <= LAST_OPERATION),
-        Instr::Jz(r1, r2) => (r1.0 < REGISTER_NAMES) & (r2.0 < REGISTER_NAMES),
-        Instr::Load(r, r1) => (r.0 < REGISTER_NAMES) & (r1.0 < REGISTER_NAMES),
-        Instr::Store(r1, r2) => (r1.0 < REGISTER_NAMES) & (r2.0 < REGISTER_NAMES),
+        Instr::Loadc(r, _) => is_reg(r),
+        Instr::Loadpc(r) => is_reg(r),
+        Instr::Op(r, op, r1, r2) => is_reg(r) & is_reg(r1) & is_reg(r2) & (op <= LAST_OPERATION),
+        Instr::Jz(r1, r2) => is_reg(r1) & is_reg(r2),
+        Instr::Load(r, r1) => is_reg(r) & is_reg(r1),
+        Instr::Store(r1, r2) => is_reg(r1) & is_reg(r2),
     }
 }
 
 // The instruction, if the bytes that it doesn't use are zero and it is well formed.
-fn if_formed(unused: bool, i: Instr) -> Reading
-    ensures { result ≡ answer (if_formed unused i) }
+fn if_formed(unused: bool, i: Instr) -> Result<Instr, Refusal>
+    ensures { result ≡ if_formed unused i }
 {
     if unused & is_formed(i) {
-        Reading::Is(i)
+        Ok(i)
     } else {
-        Reading::Refused(refusal::BAD_INSTRUCTION)
+        Err(Refusal::BadInstruction)
     }
 }
 
-fn parse(r: Record) -> Reading
-    ensures { result ≡ answer (parse r) }
+#[tactic(auto, unfolding(crate::specs::Instruction::parse))]
+fn parse(r: Record) -> Result<Instr, Refusal>
+    ensures { result ≡ parse r }
 {
-    let code = r.b0;
     let k = r.word;
-    match code {
+    match r.b0 {
         1 => if_formed((r.b2 == 0) & (r.b3 == 0), Instr::Loadc(Reg(r.b1), k)),
         2 => if_formed(
             (r.b2 == 0) & (r.b3 == 0) & (k == 0),
             Instr::Loadpc(Reg(r.b1)),
         ),
         3 => {
-            if k <= LAST_OPERATION_IN_RECORD {
-                if_formed(true, Instr::Op(Reg(r.b1), k as u8, Reg(r.b2), Reg(r.b3)))
-            } else {
-                Reading::Refused(refusal::BAD_INSTRUCTION)
+            if k > LAST_OPERATION as u32 {
+                return Err(Refusal::BadInstruction);
             }
+            if_formed(true, Instr::Op(Reg(r.b1), k as u8, Reg(r.b2), Reg(r.b3)))
         }
         4 => if_formed((r.b1 == 0) & (k == 0), Instr::Jz(Reg(r.b2), Reg(r.b3))),
         5 => if_formed((r.b3 == 0) & (k == 0), Instr::Load(Reg(r.b1), Reg(r.b2))),
         6 => if_formed((r.b1 == 0) & (k == 0), Instr::Store(Reg(r.b2), Reg(r.b3))),
-        _ => Reading::Refused(refusal::BAD_INSTRUCTION),
+        _ => Err(Refusal::BadInstruction),
     }
 }
 
 // The instruction of a record of exactly 8 bytes.
-pub fn read(bytes: &[u8]) -> Reading
-    ensures { result ≡ answer (read_of bytes.now) }
+pub fn read(bytes: &[u8]) -> Result<Instr, Refusal>
+    ensures { result ≡ read_of bytes.now }
 {
     if bytes.len() != 8 {
-        return Reading::Refused(refusal::BAD_LENGTH);
+        return Err(Refusal::BadLength);
     }
     match records::read(bytes, 0) {
-        Found::Is(r) => parse(r),
-        Found::Nothing => Reading::Refused(refusal::BAD_LENGTH),
+        Some(r) => parse(r),
+        None => Err(Refusal::BadLength),
     }
 }
 
 // The instruction at an address of a program.
-pub fn fetch(program: &[u8], at: InstrAddr) -> Reading
-    ensures { result ≡ answer (fetched program.now at) }
+pub fn fetch(program: &[u8], at: InstrAddr) -> Result<Instr, Refusal>
+    ensures { result ≡ fetched program.now at }
 {
     match records::read(program, at.0 as usize) {
-        Found::Is(r) => parse(r),
-        Found::Nothing => Reading::Refused(refusal::NO_INSTRUCTION),
+        Some(r) => parse(r),
+        None => Err(Refusal::NoInstruction),
     }
 }
 
 // What the fields spell: neither registers nor unused bytes are judged, and no instruction is made of another code or operation.
-fn spelled(r: Record) -> Reading
-    ensures { result ≡ answer (spelled r) }
+#[tactic(auto, unfolding(crate::specs::Instruction::spelled))]
+fn spelled(r: Record) -> Result<Instr, Refusal>
+    ensures { result ≡ spelled r }
 {
-    let code = r.b0;
-    let k = r.word;
-    match code {
-        1 => Reading::Is(Instr::Loadc(Reg(r.b1), k)),
-        2 => Reading::Is(Instr::Loadpc(Reg(r.b1))),
+    match r.b0 {
+        1 => Ok(Instr::Loadc(Reg(r.b1), r.word)),
+        2 => Ok(Instr::Loadpc(Reg(r.b1))),
         3 => {
-            if k > LAST_OPERATION_IN_RECORD {
-                return Reading::Refused(refusal::BAD_INSTRUCTION);
+            if r.word > LAST_OPERATION as u32 {
+                return Err(Refusal::BadInstruction);
             }
-            Reading::Is(Instr::Op(Reg(r.b1), k as u8, Reg(r.b2), Reg(r.b3)))
+            Ok(Instr::Op(Reg(r.b1), r.word as u8, Reg(r.b2), Reg(r.b3)))
         }
-        4 => Reading::Is(Instr::Jz(Reg(r.b2), Reg(r.b3))),
-        5 => Reading::Is(Instr::Load(Reg(r.b1), Reg(r.b2))),
-        6 => Reading::Is(Instr::Store(Reg(r.b2), Reg(r.b3))),
-        _ => Reading::Refused(refusal::BAD_INSTRUCTION),
+        4 => Ok(Instr::Jz(Reg(r.b2), Reg(r.b3))),
+        5 => Ok(Instr::Load(Reg(r.b1), Reg(r.b2))),
+        6 => Ok(Instr::Store(Reg(r.b2), Reg(r.b3))),
+        _ => Err(Refusal::BadInstruction),
     }
 }
 
 // The instruction at an address of a program that was scanned: its form is not judged again.
-pub fn decode(program: &[u8], at: InstrAddr) -> Reading
-    ensures { result ≡ answer (decoded program.now at) }
+pub fn decode(program: &[u8], at: InstrAddr) -> Result<Instr, Refusal>
+    ensures { result ≡ decoded program.now at }
 {
     match records::read(program, at.0 as usize) {
-        Found::Is(r) => spelled(r),
-        Found::Nothing => Reading::Refused(refusal::NO_INSTRUCTION),
-    }
-}
-
-fn laid_out(b0: u8, b1: u8, b2: u8, b3: u8, word: u32) -> Record
-    ensures { result ≡ record { b0 = b0; b1 = b1; b2 = b2; b3 = b3; word = word } }
-{
-    Record {
-        b0: b0,
-        b1: b1,
-        b2: b2,
-        b3: b3,
-        word: word,
+        Some(r) => spelled(r),
+        None => Err(Refusal::NoInstruction),
     }
 }
 
 fn record_of(i: Instr) -> Record
     ensures { result ≡ record_of i }
 {
-    match i {
-        Instr::Loadc(r, k) => laid_out(1, r.0, 0, 0, k),
-        Instr::Loadpc(r) => laid_out(2, r.0, 0, 0, 0),
-        Instr::Op(r, op, r1, r2) => laid_out(3, r.0, r1.0, r2.0, op as u32),
-        Instr::Jz(r1, r2) => laid_out(4, 0, r1.0, r2.0, 0),
-        Instr::Load(r, r1) => laid_out(5, r.0, r1.0, 0, 0),
-        Instr::Store(r1, r2) => laid_out(6, 0, r1.0, r2.0, 0),
+    let (b0, b1, b2, b3, word) = match i {
+        Instr::Loadc(r, k) => (1, r.0, 0, 0, k),
+        Instr::Loadpc(r) => (2, r.0, 0, 0, 0),
+        Instr::Op(r, op, r1, r2) => (3, r.0, r1.0, r2.0, op as u32),
+        Instr::Jz(r1, r2) => (4, 0, r1.0, r2.0, 0),
+        Instr::Load(r, r1) => (5, r.0, r1.0, 0, 0),
+        Instr::Store(r1, r2) => (6, 0, r1.0, r2.0, 0),
+    };
+    Record {
+        b0,
+        b1,
+        b2,
+        b3,
+        word,
     }
 }
 
-// Writes the record into the first 8 bytes, and answers 0 or the refusal.
-pub fn write(i: Instr, out: &mut [u8]) -> u8
+// Writes the record into the first 8 bytes.
+pub fn write(i: Instr, out: &mut [u8]) -> Result<(), Refusal>
     ensures { Wrote i out.old result out.new }
 {
     if out.len() < 8 {
-        return refusal::BAD_LENGTH;
+        return Err(Refusal::BadLength);
     }
     if !is_formed(i) {
-        return refusal::BAD_INSTRUCTION;
+        return Err(Refusal::BadInstruction);
     }
     records::write(out, 0, record_of(i));
-    0
+    Ok(())
 }
 
-// How many records from the front are instructions.
-fn leading_instructions(program: &[u8]) -> usize
-    ensures { result ≡ leading is_instr (records program.now) }
-{
-    let mut n: usize = 0;
-    loop {
-        match records::read(program, n) {
-            Found::Is(r) => match parse(r) {
-                Reading::Is(_) => n += 1,
-                Reading::Refused(_) => return n,
-            },
-            Found::Nothing => return n,
-        }
+// The records of a program.
+struct ProgramForm;
+
+impl Form for ProgramForm {
+    ghost use Rattle.records.specs.declared.Refusal.TheVariants.{BadInstruction};
+    ghost use Rattle.isa.specs.Program.{is_instr};
+
+    ghost right = { is_instr };
+
+    ghost REFUSAL = { BadInstruction };
+
+    const REFUSAL: Refusal = Refusal::BadInstruction;
+
+    fn is_right(r: Record) -> bool {
+        parse(r).is_ok()
     }
 }
 
-pub fn scan(program: &[u8]) -> Verdict
+#[tactic(auto, unfolding(crate::specs::Program::scan_of))]
+pub fn scan(program: &[u8]) -> Result<(), Fault>
     ensures { result ≡ scan_of program.now }
 {
-    if !records::is_whole(program) {
-        return Verdict {
-            refusal: refusal::BAD_LENGTH,
-            number: 0,
-        };
-    }
-    records::judge(
-        refusal::BAD_INSTRUCTION,
-        leading_instructions(program),
-        program.len() / 8,
-    )
+    records::scan::<ProgramForm>(program)
 }

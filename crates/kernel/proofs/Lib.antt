@@ -1,5 +1,3 @@
 -- Laws that belong to no one function.
-pub mod Answers
-pub mod Numbers
 pub mod Writing
 pub mod Checking

@@ -2,63 +2,49 @@
 #![tactic(auto)]
 
 ghost use Rattle.std.specs.Prelude.{◌≡◌};
-ghost use Rattle.cells.specs.Cells.{cells, answer};
+ghost use Rattle.cells.specs.Cells.{cells};
 ghost use Rattle.kernel.specs.Checks.{checked};
-ghost use Rattle.kernel.specs.Kernel.{read_at, Writes, target, reached};
+ghost use Rattle.kernel.specs.Kernel.{read_at, Writes, target};
 
-use cells::Loaded;
 use isa::{DataAddr, InstrAddr};
-use records::{Verdict, refusal};
+use records::{Fault, Refusal};
 use value::Value;
 
-// Where a jump goes, or the number for no.
-#[derive(Clone, Copy)]
-pub enum Reached {
-    At(InstrAddr),
-    Refused(u8),
-}
-
 // The lengths of both buffers, then the program's records, then memory's.
-pub fn check(program: &[u8], memory: &[u8]) -> Verdict
+pub fn check(program: &[u8], memory: &[u8]) -> Result<(), Fault>
     ensures { result ≡ checked program.now memory.now }
 {
     if !(records::is_whole(program) & records::is_whole(memory)) {
-        return Verdict {
-            refusal: refusal::BAD_LENGTH,
-            number: 0,
-        };
+        return Err(Fault::from(Refusal::BadLength));
     }
-    let verdict = isa::scan(program);
-    if verdict.refusal != 0 {
-        return verdict;
-    }
+    isa::scan(program)?;
     cells::scan(memory)
 }
 
-pub fn read_at(memory: &[u8], address: Value) -> Loaded
-    ensures { result ≡ answer (read_at (cells memory.now) address) }
+pub fn read_at(memory: &[u8], address: Value) -> Result<Value, Refusal>
+    ensures { result ≡ read_at (cells memory.now) address }
 {
     match address {
-        Value::Undefined => Loaded::Refused(refusal::IS_UNDEFINED),
         Value::Word(w) => cells::load(memory, DataAddr(w)),
+        Value::Undefined => Err(Refusal::IsUndefined),
     }
 }
 
-// Writes the cell, and answers 0 or the refusal.
-pub fn write_at(memory: &mut [u8], address: Value, v: Value) -> u8
+// Writes the cell, if the address is one of memory's.
+pub fn write_at(memory: &mut [u8], address: Value, v: Value) -> Result<(), Refusal>
     ensures { Writes memory.old address v result memory.new }
 {
     match address {
-        Value::Undefined => refusal::IS_UNDEFINED,
         Value::Word(w) => cells::store(memory, DataAddr(w), v),
+        Value::Undefined => Err(Refusal::IsUndefined),
     }
 }
 
-pub fn target(v: Value) -> Reached
-    ensures { result ≡ reached (target v) }
+pub fn target(v: Value) -> Result<InstrAddr, Refusal>
+    ensures { result ≡ target v }
 {
     match v {
-        Value::Undefined => Reached::Refused(refusal::IS_UNDEFINED),
-        Value::Word(w) => Reached::At(InstrAddr(w)),
+        Value::Word(w) => Ok(InstrAddr(w)),
+        Value::Undefined => Err(Refusal::IsUndefined),
     }
 }

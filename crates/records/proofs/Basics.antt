@@ -4,13 +4,13 @@ use Prim.Native.Nat.{ℕ}
 use native.Mathlib.Omega.{arith}
 use mathlib.Core.Bool.{Bool, true, false, ◌&&◌, false≢true}
 use mathlib.Core.Option.{Option, none, some}
-use Rattle.records.specs.Try.{got, fails}
+use Rattle.std.specs.Prelude.{Ok, Err}
 
 pub both : (a b : Bool) → a && b ≡ true → (a ≡ true) × (b ≡ true)
 both true b e = (refl, e)
 both false b e = absurd (false≢true e)
 
-pub got_not_fails : {A B : Type 0} {x : A} {n : ℕ} → fails n ≡ got x → B
+pub got_not_fails : {A E B : Type 0} {x : A} {n : E} → Err n ≡ Ok x → B
 got_not_fails e = let z : ◌≡◌ {A = ℕ} 0 1 = cc in absurd (omega arith)
 
 pub same_some : {A : Type 0} {o : Option A} {x y : A} → o ≡ some x → o ≡ some y → x ≡ y

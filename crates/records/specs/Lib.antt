@@ -1,5 +1,4 @@
 -- What the contracts of this crate, and of those above it, cite.
 pub mod Refusal
-pub mod Try
 pub mod Records
 pub mod Scan

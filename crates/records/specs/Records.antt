@@ -1,10 +1,8 @@
 -- A buffer as records of 8 bytes, and a record as 8 bytes.
-use Rattle.std.specs.Prelude.{ℕ, zero, suc, ◌+◌, ◌*◌, ◌/◌, ◌%◌, Bool, cond, ◌&&◌, List, [], ◌∷◌, ◌++◌, eqb, leb, ltb, length, get_or}
-use Rattle.std.proofs.Math.Option.{Option, none, some}
+use Rattle.std.specs.Prelude.{ℕ, zero, suc, ◌+◌, ◌*◌, ◌/◌, ◌%◌, Bool, cond, ◌&&◌, List, [], ◌∷◌, ◌++◌, eqb, leb, ltb, length, get_or, Option, Some, None}
+use Rattle.std.proofs.Math.Option.{Option as Maybe, none, some}
 use Rattle.std.proofs.lemmas.List.Edits.{sets}
 use Rattle.records.specs.declared.Record.{Record}
-use Rattle.records.specs.declared.Found.{Found}
-use Rattle.records.specs.declared.Found.TheVariants.{Is, Nothing}
 
 -- the most records that a program or a memory has
 abbrev pub limit : ℕ
@@ -34,9 +32,9 @@ tabulate (suc n) f = f 0 ∷ tabulate n (λ i. f (suc i))
 unfoldable pub records : List ℕ → List Record
 records b = tabulate (length b / 8) (λ i. record_from b (8 * i))
 
-abbrev pub found : Option Record → Found
-found (some r) = Is r
-found none = Nothing
+abbrev pub found : Maybe Record → Option Record
+found (some r) = Some r
+found none = None
 
 -- a record's eight bytes
 abbrev pub bytes : Record → List ℕ

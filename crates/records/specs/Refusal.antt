@@ -1,67 +1,41 @@
--- The numbers for no: the table of the scope paper, a name for each.
-use Rattle.std.specs.Prelude.{ℕ}
+-- The numbers for no, and what a refusal is about.
+use Rattle.std.specs.Prelude.{ℕ, Result, Ok, Err}
+use Rattle.records.specs.declared.Refusal.{Refusal}
+use Rattle.records.specs.declared.Refusal.TheVariants.{BadLength, BadInstruction, BadCell, Unsound, BadSchedule, NoInstruction, Stalled, Full, BadTag, NoTemplate, OtherKind, NeedsTag, NotHeld, StillHeld, EarlierMemory, IsUndefined, Outside, OtherWay}
+use Rattle.records.specs.declared.Fault.{Fault}
 
--- a buffer isn't whole records, is over its limit, or an output is too short
-abbrev pub bad_length : ℕ
-bad_length = 1
+-- each refusal's number in the scope paper's table
+abbrev pub number_of : Refusal → ℕ
+number_of BadLength = 1
+number_of BadInstruction = 2
+number_of BadCell = 3
+number_of Unsound = 4
+number_of BadSchedule = 5
+number_of NoInstruction = 6
+number_of Stalled = 7
+number_of Full = 8
+number_of BadTag = 9
+number_of NoTemplate = 10
+number_of OtherKind = 11
+number_of NeedsTag = 12
+number_of NotHeld = 13
+number_of StillHeld = 14
+number_of EarlierMemory = 15
+number_of IsUndefined = 16
+number_of Outside = 17
+number_of OtherWay = 18
 
--- a malformed instruction, a malformed cell: with the first such record's number
-abbrev pub bad_instruction : ℕ
-bad_instruction = 2
+-- the refusal at record number i
+abbrev pub fault : Refusal → ℕ → Fault
+fault n i = record { refusal = n; number = i }
 
-abbrev pub bad_cell : ℕ
-bad_cell = 3
+-- ---- what was tried, without its value
 
--- state not sound
-abbrev pub unsound : ℕ
-unsound = 4
+abbrev pub verdict_of : {A : Type 0} → Result A Refusal → Result Unit Refusal
+verdict_of (Ok x) = Ok tt
+verdict_of (Err n) = Err n
 
--- malformed schedule record
-abbrev pub bad_schedule : ℕ
-bad_schedule = 5
-
--- issue: no instruction there; stalled; 64 templates; tag wrong or in use
-abbrev pub no_instruction : ℕ
-no_instruction = 6
-
-abbrev pub stalled : ℕ
-stalled = 7
-
-abbrev pub full : ℕ
-full = 8
-
-abbrev pub bad_tag : ℕ
-bad_tag = 9
-
--- no template at the place; not of the rule's kind
-abbrev pub no_template : ℕ
-no_template = 10
-
-abbrev pub other_kind : ℕ
-other_kind = 11
-
--- a needed operand is a tag
-abbrev pub needs_tag : ℕ
-needs_tag = 12
-
--- nothing holds the tag to forward or commit; retire: the tag is held
-abbrev pub not_held : ℕ
-not_held = 13
-
-abbrev pub still_held : ℕ
-still_held = 14
-
--- an earlier Load or Store
-abbrev pub earlier_memory : ℕ
-earlier_memory = 15
-
--- undefined address, condition or taken target; address outside memory
-abbrev pub is_undefined : ℕ
-is_undefined = 16
-
-abbrev pub outside : ℕ
-outside = 17
-
--- jump with non-zero condition, or no-jump with zero
-abbrev pub other_way : ℕ
-other_way = 18
+-- of a refusal that is about no record
+abbrev pub faulted : Result Unit Refusal → Result Unit Fault
+faulted (Ok x) = Ok tt
+faulted (Err n) = Err (fault n 0)

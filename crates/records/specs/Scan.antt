@@ -1,15 +1,18 @@
 -- The scan of a buffer for its first malformed record.
-use Rattle.std.specs.Prelude.{ℕ, suc, ◌/◌, Bool, cond, List, [], ◌∷◌, ltb, length}
+use Rattle.std.specs.Prelude.{ℕ, suc, ◌/◌, Bool, cond, List, [], ◌∷◌, ltb, length, Result, Ok, Err}
 use Rattle.records.specs.declared.Record.{Record}
-use Rattle.records.specs.declared.Verdict.{Verdict}
-use Rattle.records.specs.Refusal.{bad_length}
+use Rattle.records.specs.declared.Refusal.{Refusal}
+use Rattle.records.specs.declared.Refusal.TheVariants.{BadLength}
+use Rattle.records.specs.declared.Fault.{Fault}
+use Rattle.records.specs.Refusal.{fault}
 use Rattle.records.specs.Records.{records, is_whole}
 
-abbrev pub verdict : ℕ → ℕ → Verdict
-verdict n i = record { refusal = n; number = i }
+-- refused, at record number i
+abbrev pub refused : Refusal → ℕ → Result Unit Fault
+refused n i = Err (fault n i)
 
-abbrev pub accepted : Verdict
-accepted = verdict 0 0
+abbrev pub accepted : Result Unit Fault
+accepted = Ok tt
 
 -- how many from the front are well formed: the number of the first that isn't
 abbrev pub leading : {A : Type 0} → (A → Bool) → List A → ℕ
@@ -17,9 +20,9 @@ leading right [] = 0
 leading right (x ∷ xs) = cond (right x) (suc (leading right xs)) 0
 
 -- refusal n at record number i, unless all of the count are well formed
-abbrev pub judged : ℕ → ℕ → ℕ → Verdict
-judged n i count = cond (ltb i count) (verdict n i) accepted
+abbrev pub judged : Refusal → ℕ → ℕ → Result Unit Fault
+judged n i count = cond (ltb i count) (refused n i) accepted
 
 -- the length first; then each record by `right`, whose refusal is n
-abbrev pub scanned : ℕ → (Record → Bool) → List ℕ → Verdict
-scanned n right b = cond (is_whole b) (judged n (leading right (records b)) (length b / 8)) (verdict bad_length 0)
+abbrev pub scanned : Refusal → (Record → Bool) → List ℕ → Result Unit Fault
+scanned n right b = cond (is_whole b) (judged n (leading right (records b)) (length b / 8)) (refused BadLength 0)

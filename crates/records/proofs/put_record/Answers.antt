@@ -1,29 +1,15 @@
 -- `records::put_record` meets its contract.
-use native.Mathlib.Omega.{arith}
-use native.Mathlib.Numerals.{towards_suc}
-use lib.ListN.{length-set}
+use Rattle.std.proofs.Common.{arith, ap, sym, ◌∙◌, ◌≡◌, ◌+◌, ◌-◌, ◌++◌, take, drop, drop-drop, append_assoc}
+use Rattle.std.proofs.lemmas.List.Edits.{sets-eq}
+use Rattle.records.specs.Records.{bytes}
 use Rattle.records.proofs.put_record.Goals as goal
 
-pub bounds-out-at-2 : goal.bounds-out-at-2
-bounds-out-at-2 c = simp length-set (omega arith)
-
-pub bounds-out-at-3 : goal.bounds-out-at-3
-bounds-out-at-3 c = simp length-set (omega arith)
-
-pub bounds-out-at-4 : goal.bounds-out-at-4
-bounds-out-at-4 c = simp length-set (omega arith)
-
-pub bounds-out-at-5 : goal.bounds-out-at-5
-bounds-out-at-5 c = simp length-set (omega arith)
-
-pub bounds-out-at-6 : goal.bounds-out-at-6
-bounds-out-at-6 c = simp length-set (omega arith)
-
-pub bounds-out-at-7 : goal.bounds-out-at-7
-bounds-out-at-7 c = simp length-set (omega arith)
-
-pub bounds-out-at-8 : goal.bounds-out-at-8
-bounds-out-at-8 c = simp length-set (omega arith)
-
 pub returns : goal.returns
-returns c = simp towards_suc
+returns c =
+    let b = c.args.out.now in
+    let a = c.args.at in
+    let eight : a + 8 - a ≡ 8 = omega arith in
+    rw (eight, c.copy_from_slice.ensures.after, c.to_le_bytes-word.ensures)
+    (ap (λ l. take a b ++ (bytes c.args.r ++ l)) (drop-drop 8 a b)
+    ∙ sym (append_assoc (take a b) (bytes c.args.r) (drop (a + 8) b))
+    ∙ sym (sets-eq (bytes c.args.r) b a c.requires))
