@@ -1,3 +1,2 @@
--- Laws that belong to no one function.
-pub mod Complement
+-- What belongs to no one function.
 pub mod Examples

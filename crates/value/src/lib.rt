@@ -2,9 +2,10 @@
 #![tactic(auto)]
 
 ghost use Rattle.std.specs.Prelude.{◌≡◌};
-ghost use Rattle.value.specs.Operation.{signed, word_of, add, sub, mul, div, less, result_of};
+ghost use Rattle.value.specs.Operation.{div, less, result_of};
 
-#[derive(Clone, Copy)]
+// No Option: undefined is a value that registers and cells hold, and no absence of one.
+#[derive(Clone, Copy, PartialEq, Eq)]
 pub enum Value {
     Undefined,
     Word(u32),
@@ -13,46 +14,6 @@ pub enum Value {
 // The undefined value: built here alone.
 pub const UNDEFINED: Value = Value::Undefined;
 
-// A word, read as two's complement.
-fn signed(word: u32) -> i32
-    ensures { result ≡ signed word }
-{
-    if word < 2147483648 {
-        word as i32
-    } else {
-        !((4294967295 - word) as i32)
-    }
-}
-
-// The word that reads as the number in two's complement.
-fn word_of(number: i32) -> u32
-    ensures { result ≡ word_of number }
-{
-    if number >= 0 {
-        number as u32
-    } else {
-        4294967295 - (!number) as u32
-    }
-}
-
-fn plus(a: u32, b: u32) -> u32
-    ensures { result ≡ add a b }
-{
-    std::num::wrapping_add_u32(a, b)
-}
-
-fn minus(a: u32, b: u32) -> u32
-    ensures { result ≡ sub a b }
-{
-    std::num::wrapping_sub_u32(a, b)
-}
-
-fn times(a: u32, b: u32) -> u32
-    ensures { result ≡ mul a b }
-{
-    ((a as u64) * (b as u64) % 4294967296) as u32
-}
-
 // The two quotients that the division of signed numbers doesn't have go first.
 fn quotient(a: u32, b: u32) -> Value
     ensures { result ≡ div a b }
@@ -60,36 +21,32 @@ fn quotient(a: u32, b: u32) -> Value
     if b == 0 {
         return UNDEFINED;
     }
-    if a == 2147483648 {
-        if b == 4294967295 {
-            return Value::Word(2147483648);
-        }
+    if (a == 2147483648) & (b == 4294967295) {
+        return Value::Word(2147483648);
     }
-    Value::Word(word_of(signed(a) / signed(b)))
+    Value::Word((a.cast_signed() / b.cast_signed()).cast_unsigned())
 }
 
 fn smaller(a: u32, b: u32) -> u32
     ensures { result ≡ less a b }
 {
-    if signed(a) < signed(b) { 1 } else { 0 }
+    u32::from(a.cast_signed() < b.cast_signed())
 }
 
 // The result of an operation by its number; an undefined operand gives undefined.
+#[tactic(auto, unfolding(crate::specs::Operation::result_of))]
 pub fn operate(operation: u8, first: Value, second: Value) -> Value
     ensures { result ≡ result_of operation first second }
 {
-    match first {
-        Value::Undefined => UNDEFINED,
-        Value::Word(a) => match second {
-            Value::Undefined => UNDEFINED,
-            Value::Word(b) => match operation {
-                0 => Value::Word(plus(a, b)),
-                1 => Value::Word(minus(a, b)),
-                2 => Value::Word(times(a, b)),
-                3 => quotient(a, b),
-                4 => Value::Word(smaller(a, b)),
-                _ => UNDEFINED,
-            },
+    match (first, second) {
+        (Value::Word(a), Value::Word(b)) => match operation {
+            0 => Value::Word(a.wrapping_add(b)),
+            1 => Value::Word(a.wrapping_sub(b)),
+            2 => Value::Word(a.wrapping_mul(b)),
+            3 => quotient(a, b),
+            4 => Value::Word(smaller(a, b)),
+            _ => UNDEFINED,
         },
+        (Value::Undefined, _) | (_, Value::Undefined) => UNDEFINED,
     }
 }
