@@ -1,6 +1,5 @@
 -- Laws that belong to no one function.
 pub mod Walks
-pub mod Typed
 pub mod Coding
 pub mod Showing
 pub mod Works

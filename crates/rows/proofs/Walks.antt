@@ -1,27 +1,24 @@
--- The loops over arrays and slices, a turn at a time: a change of every place, a removal, the two among the first places, a laying out, and a search of a row's operands.
+-- The loops over arrays and slices, a turn at a time: a change of every place, also among the first places, a laying out, and a search by the library's iterators.
 use mathlib.Core.Path.{◌≡◌, refl, sym, ap, ap₂, ◌∙◌}
 use mathlib.Core.Logic.{◌≢◌}
 use Prim.Native.Nat.{ℕ, zero, suc, ◌+◌, ◌≤◌, ◌<◌, min}
 use native.Mathlib.Numerals.{add-one}
 use native.Mathlib.Omega.{arith}
-use mathlib.Core.Bool.{Bool, true, false, cond, or-true}
+use mathlib.Core.Bool.{Bool, true, false, cond, ◌||◌, or-true}
 use mathlib.Core.List.{List, [], ◌∷◌, ◌++◌, map, append-nil}
 use lib.Dec.{eqb, ltb}
 use lib.ListN.{length, take, drop, get_or, set, replicate, length-map, length-take, length-set, drop_of_length-le, take-append-drop, get_or-map}
-use lib.Seq.{take_all, take_at, take-suc, length-take-le, drop-cons, append_snoc, set_split, drop-set-lt, take-set-lt, take-suc-set, get_or-take}
+use lib.Seq.{take_all, take_at, take-suc, length-take-le, drop-cons, append_snoc, drop-set-lt, take-set-lt, take-suc-set, get_or-take}
 use borrow.Author.Tests.{eq-eqb, ne_eqb, lt-ltb, le-ltb}
+use denote.Param.Members.{Mut, Called}
+use Rattle.std.specs.Array.{IsMapOf}
+use Rattle.std.specs.List.{list_any}
 use Rattle.templates.specs.Templates.{any}
 use Rattle.rows.specs.Rows.{Row, one, two, holds_row, among, map_from}
 use Rattle.rows.specs.Shown.{laid}
 use Rattle.rows.specs.Answers.{All}
 
--- ---- a read: within the list it doesn't matter what a place that is none would be
-
-module _ {A : Type 0} where
-  pub read_in : (xs : List A) (i : ℕ) (d e : A) → i < length xs → get_or xs i d ≡ get_or xs i e
-  read_in [] i d e h = absurd (omega (arith, h))
-  read_in (x ∷ xs) zero d e h = refl
-  read_in (x ∷ xs) (suc i) d e h = read_in xs i d e (omega (arith, h))
+-- ---- a read of a change, and of two after each other
 
 -- the first n changed by f, and by g after it
 module _ {A B : Type 0} (f : A → B) (n : ℕ) (xs : List A) where
@@ -99,35 +96,6 @@ module _ {A : Type 0} {f : A → A} {k : ℕ} {l : List A} {i : ℕ} {r : List A
       let past : length l ≤ i = omega (arith, s.long) in
       rw (drop_of_length-le, take_all, append-nil) at s.left
 
--- ---- a removal that has come to place i, which is to make r of the k places
-
-module _ {A : Type 0} (blank : A) where
-  abbrev pub gone : ℕ → List A → List A
-  gone p xs = take p xs ++ (drop (suc p) xs ++ blank ∷ [])
-
-  pub record Removing (k : ℕ) (l : List A) (i : ℕ) (r : List A) : Type 0 where
-    pub long : length l ≡ k
-    pub place : i < k
-    pub left : gone i l ≡ r
-
-module _ {A : Type 0} {blank : A} {k : ℕ} {l : List A} {i : ℕ} {r : List A} (s : Removing blank k l i r) where
-  pub remove_on : (d : A) {x : A} → x ≡ get_or l (i + 1) d → i + 1 < k → Removing blank k (set l i x) (i + 1) r
-  remove_on d e h =
-      let here : i < length l = omega (arith, s.long) in
-      let next : suc i < length l = omega (arith, s.long) in
-      let behind : i < suc (suc i) = omega arith in
-      record {
-        long = simp length-set s.long;
-        place = h;
-        left = rw (e, add-one, take-suc-set, drop-set-lt, append_snoc) (rw (drop-cons l (suc i) d next) at s.left);
-      }
-
-  pub remove_end : {x : A} → x ≡ blank → k ≤ i + 1 → set l i x ≡ r
-  remove_end e h =
-      let here : i < length l = omega (arith, s.long, s.place) in
-      let past : length l ≤ suc i = omega (arith, s.long) in
-      rw (e, set_split, drop_of_length-le) (rw drop_of_length-le at s.left)
-
 -- ---- a change among the first n of the k elements: the others stay
 
 pub record Among {A : Type 0} (k n : ℕ) (l₀ l : List A) : Type 0 where
@@ -149,17 +117,6 @@ module _ {A : Type 0} {k n : ℕ} {l₀ l : List A} (a : Among k n l₀ l) where
   among_map_on {f = f} {i = i} s d e h =
       let within : i < n = omega arith in
       (among_on i _ within, rw (take-set-lt n l i _ within) (map_on s d (e ∙ ap f (sym (get_or-take n l i d within))) h))
-
-module _ {A : Type 0} {k n : ℕ} {l₀ l : List A} (a : Among k n l₀ l) {blank : A} {i : ℕ} {r : List A} (s : Removing blank (min n k) (take n l) i r) where
-  pub among_remove_on : (d : A) → i + 1 < min n k → Among k n l₀ (set l i (get_or l (i + 1) d)) × Removing blank (min n k) (take n (set l i (get_or l (i + 1) d))) (i + 1) r
-  among_remove_on d h =
-      let within : i < n = omega arith in
-      (among_on a i _ within, rw (take-set-lt n l i _ within) (remove_on s d (sym (get_or-take n l (i + 1) d (omega arith))) h))
-
-  pub among_remove_end : (f : List A → List A) → r ≡ f (take n l₀) → {x : A} → x ≡ blank → min n k ≤ i + 1 → set l i x ≡ among n f l₀
-  among_remove_end f e b h =
-      let within : i < n = omega (arith, s.place) in
-      among_end (among_on a i _ within) f (take-set-lt n l i _ within ∙ remove_end s b h ∙ e)
 
 -- ---- a laying out in k places: the first i of the elements stand there
 
@@ -242,3 +199,29 @@ ask_hit {k} {x} (suc (suc (suc j))) s h e = absurd (omega (arith, h))
 
 pub ask_end : {k : ℕ} {x : Row} {j : ℕ} → Asked k x j → 3 ≤ j → holds_row k x ≡ false
 ask_end s h = rw (s.first (omega arith), s.second h) refl
+
+-- ---- a search, as the library's iterators answer it
+
+pub any_is : {A : Type 0} (f : A → Bool) (xs : List A) → list_any f xs ≡ any f xs
+any_is f [] = refl
+any_is f (x ∷ xs) = ap (λ b. f x || b) (any_is f xs)
+
+-- ---- an array made of another by a call for each of its elements, with a fact of each
+
+pub record Made {A B : Type 0} (f : A → B) (P : A → Type 0) (xs : List A) (ys : List B) : Type 0 where
+  pub same : ys ≡ map f xs
+  pub each : All P xs
+
+module _ {A B : Type 0} (f : A → B) (P : A → Type 0) (d : A) (e : B) where
+  made_of : (xs : List A) (ys : List B) → length ys ≡ length xs → ((i : ℕ) → i < length xs → (get_or ys i e ≡ f (get_or xs i d)) × P (get_or xs i d)) → Made f P xs ys
+  made_of [] [] l h = record { same = refl; each = tt }
+  made_of [] (y ∷ ys) l h = absurd (omega (arith, l))
+  made_of (x ∷ xs) [] l h = absurd (omega (arith, l))
+  made_of (x ∷ xs) (y ∷ ys) l h =
+      let first = h 0 (omega arith) in
+      let rest = made_of xs ys (omega (arith, l)) (λ i b. h (suc i) (omega (arith, b))) in
+      record { same = ap₂ ◌∷◌ first.0 rest.same; each = (first.1, rest.each) }
+
+  pub made_by_calls : {F : Type 0} {g : Mut F (A × Unit {0}) B} {c : F} {xs : List A} {ys : List B} {n : ℕ} → IsMapOf g c xs ys n → length xs ≡ n
+      → ((p : F) (x : A) (y : B) (q : F) → Called g p (x, tt) y q → (y ≡ f x) × P x) → Made f P xs ys
+  made_by_calls {xs = xs} {ys = ys} m l h = made_of xs ys (m.long ∙ sym l) (λ i b. let x = m.at i d e (omega (arith, l, b)) in h x.0 (get_or xs i d) (get_or ys i e) x.1 x.2)

@@ -12,7 +12,7 @@ use Rattle.templates.specs.declared.Template.{Template}
 use Rattle.templates.specs.declared.Work.{Work}
 use Rattle.templates.specs.declared.Work.TheVariants.{Done, Op, Jz, Load, Store}
 use Rattle.templates.specs.Machine.{Itb, ITB}
-use Rattle.templates.specs.Layout.{itb, template}
+use Rattle.templates.specs.Layout.{places, itb, itbs, template}
 use Rattle.rows.specs.Rows.{Row, waiting, value_number, number, row_of, tag_at, address_at, fill_number}
 use Rattle.rows.specs.Shown.{numbers_of}
 
@@ -82,3 +82,8 @@ pub record TurnsRegisters (rs : List Register) (r : List ℕ) : Type 0 where
   pub numbers : r ≡ numbers_of rs
   pub long : length rs ≡ registers
   pub small : All (λ x. SmallOperand x.holds) rs
+
+pub record TurnsTemplates (xs : List Template) (ts : List Row) : Type 0 where
+  pub rows : ts ≡ map row_of (itbs xs)
+  pub long : length xs ≡ places
+  pub small : All Small (itbs xs)

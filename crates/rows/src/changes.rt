@@ -18,11 +18,9 @@ fn fill_from(ts: &mut [[u64; 3]], n: usize, from: usize, tag: u64, v: u64)
     requires { n ≤ length ts.old }
     ensures { ts.new ≡ among n (map_from (fill_row tag v) from) ts.old }
 {
-    let mut i = from;
-    while i < n {
-        let row = ts[i];
-        ts[i] = [row[0], filled(row[1], tag, v), filled(row[2], tag, v)];
-        i += 1;
+    for i in from..n {
+        let [head, one, two] = ts[i];
+        ts[i] = [head, filled(one, tag, v), filled(two, tag, v)];
     }
 }
 
@@ -30,12 +28,12 @@ fn fill_from(ts: &mut [[u64; 3]], n: usize, from: usize, tag: u64, v: u64)
 pub fn fill_behind(ts: &mut [[u64; 3]], n: usize, p: usize)
     ensures { ts.new ≡ filled_behind n p ts.old }
 {
-    let end = places::held(&ts[..], n);
+    let end = places::held(ts, n);
     if p >= end {
         return;
     }
-    let tag = codes::waiting(places::tag(&ts[..], p));
-    let v = places::row(&ts[..], p)[1];
+    let tag = codes::waiting(places::tag(ts, p));
+    let v = places::row(ts, p)[1];
     fill_from(ts, end, p + 1, tag, v);
 }
 
@@ -45,10 +43,8 @@ pub fn fill_registers(rf: &mut [u64], t: Tag, v: Value)
 {
     let tag = codes::waiting(t);
     let k = codes::coded_value(v);
-    let mut i: usize = 0;
-    while i < rf.len() {
-        rf[i] = filled(rf[i], tag, k);
-        i += 1;
+    for x in rf.iter_mut() {
+        *x = filled(*x, tag, k);
     }
 }
 

@@ -1,7 +1,7 @@
 // One number for an operand, and three for a template.
 ghost use Rattle.std.specs.Prelude.{◌≡◌, ◌<◌};
 ghost use Rattle.templates.specs.Layout.{itb};
-ghost use Rattle.rows.specs.Rows.{waiting, value_of, operand_of, head_of};
+ghost use Rattle.rows.specs.Rows.{waiting, value_of, operand_of, head_of, kind_of, tag_of};
 ghost use Rattle.rows.specs.Answers.{CodesValue, Codes, CodesRow};
 
 use isa::{InstrAddr, Tag};
@@ -28,7 +28,8 @@ pub(crate) fn waiting(t: Tag) -> u64
     FIRST_TAG + t.0 as u64
 }
 
-pub(crate) fn coded(o: Operand) -> u64
+// The number of an operand, as a register holds it.
+pub fn coded(o: Operand) -> u64
     ensures { Codes o result }
 {
     match o {
@@ -44,12 +45,12 @@ pub(crate) fn head(kind: u8, operation: u8, t: Tag, at: InstrAddr) -> u64
     kind as u64 + 8 * (operation as u64) + 2048 * (t.0 as u64) + 4294967296 * (at.0 as u64)
 }
 
-pub(crate) fn row(x: Template) -> [u64; 3]
+// The row of a template.
+pub fn row(x: Template) -> [u64; 3]
     ensures { CodesRow (itb x) result }
 {
     let at = x.address;
-    let w = x.work;
-    match w {
+    match x.work {
         Work::Done(t, v) => [
             head(crate::VALUE, 0, t, at),
             coded_value(v),
@@ -64,20 +65,34 @@ pub(crate) fn row(x: Template) -> [u64; 3]
 
 // ---- read back
 
+pub(crate) fn kind_of(head: u64) -> u8
+    ensures { result ≡ kind_of head }
+{
+    (head % 8) as u8
+}
+
+pub(crate) fn tag_of(head: u64) -> Tag
+    ensures { result ≡ tag_of head }
+{
+    Tag((head / 2048 % 256) as u8)
+}
+
 pub(crate) fn value_of(k: u64) -> Value
     ensures { result ≡ value_of k }
 {
     if k < crate::UNDEFINED {
-        return Value::Word(k as u32);
+        Value::Word(k as u32)
+    } else {
+        Value::Undefined
     }
-    Value::Undefined
 }
 
 pub(crate) fn operand_of(k: u64) -> Operand
     ensures { result ≡ operand_of k }
 {
     if k <= crate::UNDEFINED {
-        return Operand::Known(value_of(k));
+        Operand::Known(value_of(k))
+    } else {
+        Operand::Waits(Tag(((k - FIRST_TAG) % 256) as u8))
     }
-    Operand::Waits(Tag(((k - FIRST_TAG) % 256) as u8))
 }

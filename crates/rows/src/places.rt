@@ -7,27 +7,24 @@ use isa::{InstrAddr, Tag};
 use templates::Operand;
 use value::Value;
 
-// How many of the first n places there are.
+// How many of the first n places there are. Here and in what follows rows and n are any: no type holds them together.
 pub fn held(ts: &[[u64; 3]], n: usize) -> usize
     ensures { result ≡ min n (length ts.now) }
 {
-    if n < ts.len() { n } else { ts.len() }
+    n.min(ts.len())
 }
 
 pub(crate) fn row(ts: &[[u64; 3]], p: usize) -> [u64; 3]
     ensures { result ≡ row_at ts.now p }
 {
-    if p < ts.len() {
-        return ts[p];
-    }
-    crate::BLANK
+    ts.get(p).copied().unwrap_or(crate::BLANK)
 }
 
 // VALUE, OP, JZ, LOAD or STORE.
 pub fn kind(ts: &[[u64; 3]], p: usize) -> u8
     ensures { result ≡ kind_at ts.now p }
 {
-    (row(ts, p)[0] % 8) as u8
+    codes::kind_of(row(ts, p)[0])
 }
 
 // The operation of an Op.
@@ -41,7 +38,7 @@ pub fn operation(ts: &[[u64; 3]], p: usize) -> u8
 pub fn tag(ts: &[[u64; 3]], p: usize) -> Tag
     ensures { result ≡ tag_at ts.now p }
 {
-    Tag((row(ts, p)[0] / 2048 % 256) as u8)
+    codes::tag_of(row(ts, p)[0])
 }
 
 pub fn address(ts: &[[u64; 3]], p: usize) -> InstrAddr
@@ -72,10 +69,7 @@ pub fn second(ts: &[[u64; 3]], p: usize) -> Operand
 pub(crate) fn number(rf: &[u64], i: usize) -> u64
     ensures { result ≡ number_at rf.now i }
 {
-    if i < rf.len() {
-        return rf[i];
-    }
-    crate::UNDEFINED
+    rf.get(i).copied().unwrap_or(crate::UNDEFINED)
 }
 
 // What a register holds.

@@ -10,68 +10,59 @@ ghost use Rattle.sound.specs.Sound.{also, after, is_new, is_ready, work_ok, temp
 ghost use Rattle.sound.specs.Search.{told, Checks, first_jz, sound_on};
 
 use isa::{LAST_OPERATION, Tag};
-use templates::{Counter, LAST_TAG, Operand, PLACES, ROOM, State, TAGS, Template, Work};
-
-// What a walk of the templates found: whether they are in order, and which of the tags have a producer if they are.
-#[derive(Clone, Copy)]
-struct Checked {
-    ok: bool,
-    made: [bool; TAGS],
-}
+use templates::{Counter, LAST_TAG, Operand, ROOM, State, TAGS, Template, Work};
 
 // ---- the tags that have a producer
 
-fn is_made(made: [bool; TAGS], t: Tag) -> bool
-    ensures { result ≡ told made t }
-{
-    let i = t.0 as usize;
-    if i >= TAGS {
-        return false;
+// A test at the place of each tag.
+#[derive(Clone, Copy)]
+struct Made([bool; TAGS]);
+
+impl Made {
+    fn has(self, t: Tag) -> bool
+        ensures { result ≡ told self t }
+    {
+        self.0.get(t.0 as usize).copied().unwrap_or(false)
     }
-    made[i]
-}
 
-fn also(t: Tag, made: [bool; TAGS]) -> [bool; TAGS]
-    requires { t.0 ≤ last_tag }
-    ensures { told result ≡ also t (told made) }
-{
-    let mut out = made;
-    out[t.0 as usize] = true;
-    out
-}
+    fn with(self, t: Tag) -> Made
+        requires { t.0 ≤ last_tag }
+        ensures { told result ≡ also t (told self) }
+    {
+        let mut out = self.0;
+        out[t.0 as usize] = true;
+        Made(out)
+    }
 
-fn after(w: Work, made: [bool; TAGS]) -> [bool; TAGS]
-    requires { work_ok (told made) w ≡ true }
-    ensures { told result ≡ after w (told made) }
-{
-    match w {
-        Work::Done(t, _) => also(t, made),
-        Work::Op(t, _, _, _) => also(t, made),
-        Work::Jz(_, _) => made,
-        Work::Load(t, _) => also(t, made),
-        Work::Store(_, _) => made,
+    fn after(self, w: Work) -> Made
+        requires { work_ok (told self) w ≡ true }
+        ensures { told result ≡ after w (told self) }
+    {
+        match w {
+            Work::Done(t, _) | Work::Op(t, _, _, _) | Work::Load(t, _) => self.with(t),
+            Work::Jz(_, _) | Work::Store(_, _) => self,
+        }
     }
 }
 
 // ---- templates
 
-fn is_new(made: [bool; TAGS], t: Tag) -> bool
+fn is_new(made: Made, t: Tag) -> bool
     ensures { result ≡ is_new (told made) t }
 {
-    let fresh = !is_made(made, t);
-    (0 < t.0) & ((t.0 <= LAST_TAG) & fresh)
+    (0 < t.0) & ((t.0 <= LAST_TAG) & !made.has(t))
 }
 
-fn is_ready(made: [bool; TAGS], o: Operand) -> bool
+fn is_ready(made: Made, o: Operand) -> bool
     ensures { result ≡ is_ready (told made) o }
 {
     match o {
         Operand::Known(_) => true,
-        Operand::Waits(t) => is_made(made, t),
+        Operand::Waits(t) => made.has(t),
     }
 }
 
-fn work_ok(made: [bool; TAGS], w: Work) -> bool
+fn work_ok(made: Made, w: Work) -> bool
     ensures { result ≡ work_ok (told made) w }
 {
     match w {
@@ -84,36 +75,26 @@ fn work_ok(made: [bool; TAGS], w: Work) -> bool
     }
 }
 
-fn template_ok(made: [bool; TAGS], x: Template, instructions: u32) -> bool
+fn template_ok(made: Made, x: Template, instructions: u32) -> bool
     ensures { result ≡ template_ok instructions (told made) (itb x) }
 {
-    let w = x.work;
-    (x.address.0 < instructions) & work_ok(made, w)
+    (x.address.0 < instructions) & work_ok(made, x.work)
 }
 
-fn templates_ok(ts: &[[u64; 3]], n: usize, instructions: u32) -> Checked
+// The tags that the templates produce, if they are in order.
+fn templates_ok(ts: &[[u64; 3]], n: usize, instructions: u32) -> Option<Made>
     requires { n ≤ length ts.now }
     ensures { Checks instructions (held_of n ts.now) result }
 {
-    let mut made = [false; TAGS];
-    let mut i: usize = 0;
-    while i < n {
+    let mut made = Made([false; TAGS]);
+    for i in 0..n {
         let x = table::template(ts, i);
         if !template_ok(made, x, instructions) {
-            return Checked {
-                ok: false,
-                made: made,
-            };
+            return None;
         }
-        let w = x.work;
-        let more = after(w, made);
-        made = more;
-        i += 1;
+        made = made.after(x.work);
     }
-    Checked {
-        ok: true,
-        made: made,
-    }
+    Some(made)
 }
 
 // ---- registers
@@ -131,22 +112,18 @@ fn is_alone(rf: &[u64], from: usize, o: Operand) -> bool
 fn tag_from(rf: &[u64], from: usize, t: Tag) -> bool
     ensures { result ≡ any_reg t (drop from (regs_of rf.now)) }
 {
-    let mut i = from;
-    while i < rf.len() {
-        let o = rows::contents(rf, i);
-        if templates::leaf::waits_for(o, t) {
+    for i in from..rf.len() {
+        if templates::leaf::waits_for(rows::contents(rf, i), t) {
             return true;
         }
-        i += 1;
     }
     false
 }
 
-fn registers_ok(rf: &[u64], made: [bool; TAGS]) -> bool
+fn registers_ok(rf: &[u64], made: Made) -> bool
     ensures { result ≡ registers_ok (told made) (regs_of rf.now) }
 {
-    let mut i: usize = 0;
-    while i < rf.len() {
+    for i in 0..rf.len() {
         let o = rows::contents(rf, i);
         if !is_ready(made, o) {
             return false;
@@ -154,7 +131,6 @@ fn registers_ok(rf: &[u64], made: [bool; TAGS]) -> bool
         if !is_alone(rf, i + 1, o) {
             return false;
         }
-        i += 1;
     }
     true
 }
@@ -164,13 +140,7 @@ fn registers_ok(rf: &[u64], made: [bool; TAGS]) -> bool
 fn is_jz(w: Work) -> bool
     ensures { result ≡ is_jz w }
 {
-    match w {
-        Work::Done(_, _) => false,
-        Work::Op(_, _, _, _) => false,
-        Work::Jz(_, _) => true,
-        Work::Load(_, _) => false,
-        Work::Store(_, _) => false,
-    }
+    matches!(w, Work::Jz(_, _))
 }
 
 // The place of the first Jz among the first n templates, or n.
@@ -178,16 +148,12 @@ fn first_jz(ts: &[[u64; 3]], n: usize) -> usize
     requires { n ≤ length ts.now }
     ensures { result ≡ first_jz (held_of n ts.now) }
 {
-    let mut i: usize = 0;
-    while i < n {
-        let x = table::template(ts, i);
-        let w = x.work;
-        if is_jz(w) {
+    for i in 0..n {
+        if is_jz(table::template(ts, i).work) {
             return i;
         }
-        i += 1;
     }
-    i
+    n
 }
 
 fn counter_ok(c: Counter, ts: &[[u64; 3]], n: usize) -> bool
@@ -216,11 +182,9 @@ pub fn sound_on(ts: &[[u64; 3]], rf: &[u64], c: Counter, n: usize, instructions:
     if rows::filled_from(ts, n) {
         return false;
     }
-    let checked = templates_ok(ts, n, instructions);
-    if !checked.ok {
+    let Some(made) = templates_ok(ts, n, instructions) else {
         return false;
-    }
-    let made = checked.made;
+    };
     if !registers_ok(rf, made) {
         return false;
     }
@@ -231,15 +195,7 @@ pub fn sound_on(ts: &[[u64; 3]], rf: &[u64], c: Counter, n: usize, instructions:
 pub fn is_sound(s: State, instructions: u32) -> bool
     ensures { result ≡ is_sound instructions s }
 {
-    let registers = s.registers;
-    let rf = table::numbers(registers);
-    let mut ts = [rows::BLANK; PLACES];
-    let mut i: usize = 0;
-    while i < PLACES {
-        let x = s.templates[i];
-        rows::put(&mut ts, i, x);
-        i += 1;
-    }
-    let c = s.counter;
-    sound_on(&ts, &rf, c, s.count, instructions)
+    let rf = table::numbers(s.registers);
+    let ts = table::rows(s.templates);
+    sound_on(&ts, &rf, s.counter, s.count, instructions)
 }

@@ -1,11 +1,11 @@
-// The working table by what its rows stand for: read, changed, and turned from a state's registers and back into its templates and registers.
+// The working table by what its rows stand for: read, changed, and turned from a state's templates and registers and back into them.
 #![tactic(auto)]
 
-ghost use Rattle.std.specs.Prelude.{◌≡◌, ◌≤◌, ◌<◌, length};
-ghost use Rattle.templates.specs.Layout.{template};
-ghost use Rattle.rows.specs.Rows.{row_at, itb_of, among, without_at, without};
+ghost use Rattle.std.specs.Prelude.{◌≡◌};
+ghost use Rattle.templates.specs.Layout.{itb, template};
+ghost use Rattle.rows.specs.Rows.{row_at, itb_of, without};
 ghost use Rattle.rows.specs.Shown.{laid_templates, laid_registers};
-ghost use Rattle.rows.specs.Answers.{Finishes, TurnsRegisters};
+ghost use Rattle.rows.specs.Answers.{CodesRow, Finishes, TurnsRegisters, TurnsTemplates};
 
 use isa::{REGISTERS, Reg};
 use templates::{Operand, PLACES, Register, Template, Work, leaf};
@@ -16,68 +16,47 @@ use value::Value;
 fn work(ts: &[[u64; 3]], p: usize) -> Work
     ensures { result ≡ (itb_of (row_at ts.now p)).work }
 {
-    let kind = rows::kind(ts, p);
-    let t = rows::tag(ts, p);
+    let tag = rows::tag(ts, p);
     let a = rows::first(ts, p);
     let b = rows::second(ts, p);
-    if kind == rows::VALUE {
-        return Work::Done(t, rows::value(ts, p));
+    match rows::kind(ts, p) {
+        rows::VALUE => Work::Done(tag, rows::value(ts, p)),
+        rows::OP => Work::Op(tag, rows::operation(ts, p), a, b),
+        rows::JZ => Work::Jz(a, b),
+        rows::LOAD => Work::Load(tag, a),
+        _ => Work::Store(a, b),
     }
-    if kind == rows::OP {
-        return Work::Op(t, rows::operation(ts, p), a, b);
-    }
-    if kind == rows::JZ {
-        return Work::Jz(a, b);
-    }
-    if kind == rows::LOAD {
-        return Work::Load(t, a);
-    }
-    Work::Store(a, b)
 }
 
 // The template at place p.
 pub fn template(ts: &[[u64; 3]], p: usize) -> Template
     ensures { result ≡ template (itb_of (row_at ts.now p)) }
 {
-    let w = work(ts, p);
     Template {
         address: rows::address(ts, p),
-        work: w,
+        work: work(ts, p),
     }
 }
 
 // ---- changes
 
-fn close_gap(ts: &mut [[u64; 3]], n: usize, p: usize)
-    requires { (p < n) × (n ≤ length ts.old) }
-    ensures { ts.new ≡ among n (without_at p) ts.old }
-{
-    let mut i = p;
-    while i + 1 < n {
-        let row = ts[i + 1];
-        ts[i] = row;
-        i += 1;
-    }
-    ts[i] = rows::BLANK;
-}
-
-// The first n templates without the one at place p: later ones move down, from the gap upward, and the freed place is blank.
+// The first n templates without the one at place p: later ones move down a place within the one table, and the freed place is blank.
 pub fn remove(ts: &mut [[u64; 3]], n: usize, p: usize)
     ensures { ts.new ≡ without n p ts.old }
 {
-    let end = rows::held(&ts[..], n);
-    if p >= end {
-        return;
+    let end = rows::held(ts, n);
+    if p < end {
+        ts.copy_within(p + 1..end, p);
+        ts[end - 1] = rows::BLANK;
     }
-    close_gap(ts, end, p);
 }
 
 // The template at place p becomes a value template: tag and address stay.
 pub fn finish(ts: &mut [[u64; 3]], p: usize, v: Value)
     ensures { Finishes p v ts.old ts.new }
 {
-    let t = rows::tag(&ts[..], p);
-    let at = rows::address(&ts[..], p);
+    let t = rows::tag(ts, p);
+    let at = rows::address(ts, p);
     let x = Template {
         address: at,
         work: Work::Done(t, v),
@@ -91,14 +70,21 @@ pub fn numbers(rf: [Register; REGISTERS]) -> [u64; REGISTERS]
     ensures { TurnsRegisters rf result }
 {
     let mut out = [rows::UNDEFINED; REGISTERS];
-    let mut i: usize = 0;
-    while i < REGISTERS {
-        let x = rf[i];
-        let o = x.holds;
-        rows::hold(&mut out, Reg(i as u8), o);
-        i += 1;
+    for (i, x) in rf.iter().enumerate() {
+        rows::hold(&mut out, Reg(i as u8), x.holds);
     }
     out
+}
+
+// The working table of a state's templates, place by place.
+pub fn rows(ts: [Template; PLACES]) -> [[u64; 3]; PLACES]
+    ensures { TurnsTemplates ts result }
+{
+    ts.map(
+        |x|
+            ensures { CodesRow (itb x) result }
+        { rows::row(x) },
+    )
 }
 
 pub fn registers(rf: &[u64]) -> [Register; REGISTERS]
@@ -107,14 +93,10 @@ pub fn registers(rf: &[u64]) -> [Register; REGISTERS]
     let mut out = [Register {
         holds: Operand::Known(value::UNDEFINED),
     }; REGISTERS];
-    let mut i: usize = 0;
-    while i < REGISTERS {
-        if i >= rf.len() {
-            return out;
-        }
-        let o = rows::contents(rf, i);
-        out[i] = Register { holds: o };
-        i += 1;
+    for i in 0..rf.len().min(REGISTERS) {
+        out[i] = Register {
+            holds: rows::contents(rf, i),
+        };
     }
     out
 }
@@ -123,16 +105,9 @@ pub fn registers(rf: &[u64]) -> [Register; REGISTERS]
 pub fn templates(ts: &[[u64; 3]], n: usize) -> [Template; PLACES]
     ensures { result ≡ laid_templates n ts.now }
 {
-    let end = rows::held(ts, n);
     let mut out = [leaf::blank(); PLACES];
-    let mut i: usize = 0;
-    while i < PLACES {
-        if i >= end {
-            return out;
-        }
-        let x = template(ts, i);
-        out[i] = x;
-        i += 1;
+    for i in 0..rows::held(ts, n).min(PLACES) {
+        out[i] = template(ts, i);
     }
     out
 }

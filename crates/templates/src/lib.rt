@@ -22,15 +22,15 @@ pub const LAST_TAG: u8 = 64;
 // The numbers of tags, with 0 for none.
 pub const TAGS: usize = 65;
 
-// What a register or an operand holds: a value, or the tag that it waits for.
-#[derive(Clone, Copy)]
+// What a register or an operand holds: a value, or the tag that it waits for. No Result: to wait is no error.
+#[derive(Clone, Copy, PartialEq, Eq)]
 pub enum Operand {
     Known(Value),
     Waits(Tag),
 }
 
-// What a template still has to do; a value template is done.
-#[derive(Clone, Copy)]
+// What a template still has to do; a value template is done. An operation is a number, as in the instruction.
+#[derive(Clone, Copy, PartialEq, Eq)]
 pub enum Work {
     Done(Tag, Value),
     Op(Tag, u8, Operand, Operand),
@@ -39,25 +39,26 @@ pub enum Work {
     Store(Operand, Operand),
 }
 
-#[derive(Clone, Copy)]
+#[derive(Clone, Copy, PartialEq, Eq)]
 pub struct Template {
     pub address: InstrAddr,
     pub work: Work,
 }
 
-#[derive(Clone, Copy)]
+#[derive(Clone, Copy, PartialEq, Eq)]
 pub struct Register {
     pub holds: Operand,
 }
 
-#[derive(Clone, Copy)]
+// No Option: a stalled counter is one of the memo's, and no absence of one.
+#[derive(Clone, Copy, PartialEq, Eq)]
 pub enum Counter {
     At(InstrAddr),
     Stall,
 }
 
-// The first `count` places of the table hold the templates, the oldest first; the others are blank.
-#[derive(Clone, Copy)]
+// The first `count` places of the table hold the templates, the oldest first; the others are blank: memory is fixed.
+#[derive(Clone, Copy, PartialEq, Eq)]
 pub struct State {
     pub counter: Counter,
     pub registers: [Register; isa::REGISTERS],

@@ -18,10 +18,10 @@ loop-i-init c = let rf = c.args.rf.now in
     record { long = length-map rf _; left = ap (λ l. any_reg c.args.t (drop c.args.from l)) (take_all (length rf) (regs_of rf) (omega (arith, length-map rf (λ k. register (operand_of k))))) }
 
 pub returns-then-waits_for : goal.returns-then-waits_for
-returns-then-waits_for c = seek_hit c.loop-i.invariant (register (Known undefined)) (omega (arith, c.loop-i-test.true)) (ap (λ (x : Register). waits c.args.t x.holds) (register_shown c.args.rf.now c.loop-i.i) ∙ ap (waits c.args.t) (sym c.contents-o.ensures) ∙ sym c.waits_for.ensures ∙ c.if-waits_for.true)
+returns-then-waits_for c = seek_hit c.loop-i.invariant (register (Known undefined)) (omega (arith, c.loop-i-test.true)) (ap (λ (x : Register). waits c.args.t x.holds) (register_shown c.args.rf.now c.loop-i.i) ∙ ap (waits c.args.t) (sym c.contents.ensures) ∙ sym c.waits_for.ensures ∙ c.if-waits_for.true)
 
 pub loop-i-preserved : goal.loop-i-preserved
-loop-i-preserved c = seek_on c.loop-i.invariant (register (Known undefined)) (omega (arith, c.loop-i-test.true)) (ap (λ (x : Register). waits c.args.t x.holds) (register_shown c.args.rf.now c.loop-i.i) ∙ ap (waits c.args.t) (sym c.contents-o.ensures) ∙ sym c.waits_for.ensures ∙ c.if-waits_for.false)
+loop-i-preserved c = seek_on c.loop-i.invariant (register (Known undefined)) (omega (arith, c.loop-i-test.true)) (ap (λ (x : Register). waits c.args.t x.holds) (register_shown c.args.rf.now c.loop-i.i) ∙ ap (waits c.args.t) (sym c.contents.ensures) ∙ sym c.waits_for.ensures ∙ c.if-waits_for.false)
 
 pub returns : goal.returns
 returns c = seek_end c.loop-i.invariant (omega (arith, c.loop-i-test.false))

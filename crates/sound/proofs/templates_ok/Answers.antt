@@ -2,7 +2,7 @@
 use mathlib.Core.Path.{◌≡◌, refl, sym, ap, ap₂, ◌∙◌}
 use Prim.Native.Nat.{ℕ, ◌<◌}
 use native.Mathlib.Omega.{arith}
-use mathlib.Core.Bool.{true, false≢true, and-eq-true_iff}
+use mathlib.Core.Bool.{true, and-eq-true_iff}
 use lib.Dec.{ltb}
 use lib.ListN.{length, take}
 use Rattle.templates.specs.declared.Template.{Template}
@@ -28,13 +28,10 @@ loop-i-init c = (record { long = held_size c.args.n c.args.ts.now c.requires; le
 
 pub returns-then-not-template_ok : goal.returns-then-not-template_ok
 returns-then-not-template_ok c = let bad = sym (ap₂ (template_ok c.args.instructions) c.loop-i.invariant.1 (ap itb c.template-x.ensures)) ∙ sym c.template_ok.ensures ∙ c.if-not-template_ok.true in
-    record {
-      verdict = walk_out c.loop-i.invariant.0 nothing (at_shown c.args.n c.args.ts.now c.loop-i.i c.loop-i-test.true c.requires) c.loop-i-test.true (rw bad);
-      tags = λ e. absurd (false≢true e);
-    }
+    sym (walk_out c.loop-i.invariant.0 nothing (at_shown c.args.n c.args.ts.now c.loop-i.i c.loop-i-test.true c.requires) c.loop-i-test.true (rw bad))
 
-pub after-more-requires : goal.after-more-requires
-after-more-requires c = template-work c.args.instructions (told c.loop-i.made) (itb c.template-x.result) (sym c.template_ok.ensures ∙ c.if-not-template_ok.false)
+pub after-made-requires : goal.after-made-requires
+after-made-requires c = template-work c.args.instructions (told c.loop-i.made) (itb c.template-x.result) (sym c.template_ok.ensures ∙ c.if-not-template_ok.false)
 
 pub loop-i-preserved : goal.loop-i-preserved
 loop-i-preserved c = let ts = c.args.ts.now in
@@ -45,13 +42,12 @@ loop-i-preserved c = let ts = c.args.ts.now in
     let next = after_all-next (held_of n ts) i nothing within ∙ ap (λ (x : Itb). after x.work (after_all (take i (held_of n ts)) none)) here in
     let fine = sym (ap₂ (template_ok c.args.instructions) c.loop-i.invariant.1 (ap itb c.template-x.ensures)) ∙ sym c.template_ok.ensures ∙ c.if-not-template_ok.false in (
       walk_on c.loop-i.invariant.0 nothing here c.loop-i-test.true (rw (next, fine)),
-      c.after-more.ensures ∙ ap₂ (λ (x : Template) (made : Produced). after x.work made) c.template-x.ensures c.loop-i.invariant.1 ∙ sym next,
+      c.after-made.ensures ∙ ap₂ (λ (x : Template) (made : Produced). after x.work made) c.template-x.ensures c.loop-i.invariant.1 ∙ sym next,
       omega (arith, c.loop-i-test.true),
     )
 
 pub returns : goal.returns
-returns c = let end : c.loop-i.i ≡ c.args.n = omega (arith, c.loop-i-test.false, c.loop-i.invariant.2) in
-    record {
-      verdict = walk_end c.loop-i.invariant.0 c.loop-i-test.false;
-      tags = λ e. c.loop-i.invariant.1 ∙ ap (λ (k : ℕ). after_all (take k (held_of c.args.n c.args.ts.now)) none) end ∙ ap (λ (xs : List Itb). after_all xs none) (take_all c.args.n (held_of c.args.n c.args.ts.now) (omega (arith, held_size c.args.n c.args.ts.now c.requires)));
-    }
+returns c = let end : c.loop-i.i ≡ c.args.n = omega (arith, c.loop-i-test.false, c.loop-i.invariant.2) in (
+  sym (walk_end c.loop-i.invariant.0 c.loop-i-test.false),
+  c.loop-i.invariant.1 ∙ ap (λ (k : ℕ). after_all (take k (held_of c.args.n c.args.ts.now)) none) end ∙ ap (λ (xs : List Itb). after_all xs none) (take_all c.args.n (held_of c.args.n c.args.ts.now) (omega (arith, held_size c.args.n c.args.ts.now c.requires))),
+)

@@ -11,11 +11,8 @@ use Rattle.table.proofs.registers.Goals as goal
 pub loop-i-init : goal.loop-i-init
 loop-i-init c = record { same = refl }
 
-pub returns-then-i-rf : goal.returns-then-i-rf
-returns-then-i-rf c = lay_end c.loop-i.invariant (omega (arith, c.if-i-rf.true, registers_size c.args.rf.now))
-
 pub loop-i-preserved : goal.loop-i-preserved
-loop-i-preserved c = lay_on c.loop-i.invariant (register (Known undefined)) (ap register c.contents-o.ensures ∙ sym (register_shown c.args.rf.now c.loop-i.i)) (omega (arith, c.if-i-rf.false, registers_size c.args.rf.now)) (omega (arith, c.loop-i-test.true))
+loop-i-preserved c = lay_on c.loop-i.invariant (register (Known undefined)) (ap register c.contents.ensures ∙ sym (register_shown c.args.rf.now c.loop-i.i)) (omega (arith, registers_size c.args.rf.now)) (omega arith)
 
 pub returns : goal.returns
-returns c = lay_end c.loop-i.invariant (omega (arith, c.loop-i-test.false))
+returns c = lay_end c.loop-i.invariant (omega (arith, registers_size c.args.rf.now))

@@ -1,5 +1,4 @@
 -- `table::registers` meets its contract.
-use Prim.Native.Nat.{◌-◌}
 use Rattle.value.specs.Operation.{undefined}
 use Rattle.templates.specs.declared.Operand.TheVariants.{Known}
 use Rattle.templates.specs.Templates.{register}
@@ -9,6 +8,3 @@ use Rattle.table.proofs.registers.Given as goal
 
 abbrev pub invariant-loop-i : goal.invariant-loop-i
 invariant-loop-i l = Laying (register (Known undefined)) 32 (regs_of l.rf) l.out l.i
-
-abbrev pub decreases-loop-i : goal.decreases-loop-i
-decreases-loop-i l = 32 - l.i

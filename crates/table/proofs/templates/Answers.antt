@@ -11,16 +11,14 @@ use Rattle.table.proofs.templates.Goals as goal
 pub loop-i-init : goal.loop-i-init
 loop-i-init c = record { same = ap (λ (x : Template). replicate 64 x) c.blank-out.ensures }
 
-pub returns-then-i-end : goal.returns-then-i-end
-returns-then-i-end c = lay_end c.loop-i.invariant (omega (arith, long_maps itb_of c.args.n c.args.ts.now template, c.held-end.ensures, c.if-i-end.true))
-
 pub loop-i-preserved : goal.loop-i-preserved
 loop-i-preserved c = let n = c.args.n in
     let ts = c.args.ts.now in
+    let size = long_maps itb_of n ts template in
     lay_on c.loop-i.invariant (template (itb_of blank_row))
-    (c.template-x.ensures ∙ sym (read_maps itb_of n ts template c.loop-i.i blank_row (omega (arith, c.held-end.ensures, c.if-i-end.false))))
-    (omega (arith, long_maps itb_of n ts template, c.held-end.ensures, c.if-i-end.false))
-    (omega (arith, c.loop-i-test.true))
+    (c.template.ensures ∙ sym (read_maps itb_of n ts template c.loop-i.i blank_row (omega (arith, c.held.ensures))))
+    (omega (arith, size, c.held.ensures))
+    (omega arith)
 
 pub returns : goal.returns
-returns c = lay_end c.loop-i.invariant (omega (arith, c.loop-i-test.false))
+returns c = lay_end c.loop-i.invariant (omega (arith, long_maps itb_of c.args.n c.args.ts.now template, c.held.ensures))

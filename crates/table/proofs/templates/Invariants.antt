@@ -1,5 +1,4 @@
 -- `table::templates` meets its contract.
-use Prim.Native.Nat.{◌-◌}
 use mathlib.Core.List.{map}
 use Rattle.templates.specs.Layout.{template, blank}
 use Rattle.rows.specs.Shown.{held_of}
@@ -8,6 +7,3 @@ use Rattle.table.proofs.templates.Given as goal
 
 abbrev pub invariant-loop-i : goal.invariant-loop-i
 invariant-loop-i l = Laying blank 64 (map template (held_of l.n l.ts)) l.out l.i
-
-abbrev pub decreases-loop-i : goal.decreases-loop-i
-decreases-loop-i l = 64 - l.i

@@ -1,20 +1,18 @@
 -- `rows::searches::memory_before` meets its contract.
-use mathlib.Core.Path.{refl, sym, ap, ◌∙◌}
-use native.Mathlib.Omega.{arith}
+use mathlib.Core.Path.{◌∙◌}
+use borrow.Author.Rules.{rules}
+use borrow.Author.Tests.{tests}
+use mathlib.Core.Bool.{Bool}
 use lib.Dec.{leb}
-use borrow.Author.Tests.{le-leb, lt-leb}
-use Rattle.templates.proofs.Seeking.{seek_on, seek_hit, seek_end}
-use Rattle.rows.specs.Rows.{a_load, blank_row}
+use lib.ListN.{take}
+use Rattle.std.proofs.lemmas.Iterator.{YieldsList-from_slice, YieldsList-from_take}
+use Rattle.std.proofs.lemmas.Iterator.Search.{any_from_yields_List}
+use Rattle.rows.specs.Rows.{Row, a_load, kind_of, head}
+use Rattle.rows.proofs.Walks.{any_is}
 use Rattle.rows.proofs.searches.memory_before.Goals as goal
 
-pub loop-i-init : goal.loop-i-init
-loop-i-init c = record { long = refl; left = refl }
-
-pub returns-then-kind-ge-LOAD : goal.returns-then-kind-ge-LOAD
-returns-then-kind-ge-LOAD c = seek_hit c.loop-i.invariant blank_row (omega (arith, c.loop-i-test.true, c.held-end.ensures)) (ap (leb a_load) (sym c.kind.ensures) ∙ le-leb _ _ c.if-kind-ge-LOAD.true)
-
-pub loop-i-preserved : goal.loop-i-preserved
-loop-i-preserved c = seek_on c.loop-i.invariant blank_row (omega (arith, c.loop-i-test.true, c.held-end.ensures)) (ap (leb a_load) (sym c.kind.ensures) ∙ lt-leb _ _ c.if-kind-ge-LOAD.false)
+abbrev test : Row → Bool
+test x = leb a_load (kind_of (head x))
 
 pub returns : goal.returns
-returns c = seek_end c.loop-i.invariant (omega (arith, c.loop-i-test.false, c.held-end.ensures))
+returns c = any_from_yields_List test _ _ _ c.any.ensures.ran (YieldsList-from_take c.args.n (YieldsList-from_slice c.args.ts.now cc) cc) (λ x b q k. search (rules, tests)) ∙ any_is test (take c.args.n c.args.ts.now)
