@@ -1,6 +1,8 @@
 -- The division example, run in order by computation: r3 stays undefined, and cell 0 holds 12.
 use mathlib.Core.Path.{◌≡◌, refl}
 use mathlib.Core.List.{List, [], ◌∷◌}
+use Rattle.records.specs.declared.Refusal.TheVariants.{NoInstruction}
+use Rattle.records.specs.Scan.{refused}
 use Rattle.value.specs.declared.Value.TheVariants.{Undefined, Word}
 use Rattle.value.specs.Operation.{result_of}
 use Rattle.isa.specs.declared.Instr.{Instr}
@@ -22,7 +24,7 @@ division =
 end : End
 end = run_from division 100 start 0 (Undefined ∷ Undefined ∷ [])
 
-executes_five : (end.executed ≡ 5) × (end.stop ≡ 6) × (end.machine.counter.0 ≡ 5)
+executes_five : (end.executed ≡ 5) × (end.stop ≡ refused NoInstruction 0) × (end.machine.counter.0 ≡ 5)
 unfolding end division run_from step result_of
 executes_five = (refl, refl, refl)
 

@@ -1,6 +1,5 @@
 -- Laws that belong to no one function.
 pub mod Stops
-pub mod Doing
 pub mod Running
 pub mod Entering
 pub mod Laws

@@ -1,149 +1,152 @@
 -- A turn of the run's loop is a step of the machine.
-use mathlib.Core.Path.{◌≡◌, refl, sym, ap, ap₂, subst, ◌∙◌}
+use mathlib.Core.Path.{◌≡◌, refl, sym, ap, ap₂, ◌∙◌}
 use Prim.Native.Nat.{ℕ, suc, ◌+◌, ◌-◌, ◌<◌, ◌≤◌}
 use native.Mathlib.Omega.{arith}
-use mathlib.Core.Bool.{true}
 use mathlib.Core.List.{List}
-use lib.ListN.{length}
-use Rattle.records.specs.Scan.{accepted}
-use Rattle.records.specs.Try.{got}
+use Rattle.std.specs.Prelude.{Result, Ok, Err}
+use Rattle.records.specs.declared.Refusal.{Refusal}
+use Rattle.records.specs.Refusal.{faulted, verdict_of}
+use Rattle.records.specs.Scan.{refused, accepted}
 use Rattle.value.specs.declared.Value.{Value}
 use Rattle.isa.specs.declared.InstrAddr.{InstrAddr}
 use Rattle.isa.specs.declared.Reg.{Reg}
 use Rattle.isa.specs.declared.Instr.{Instr}
-use Rattle.isa.specs.declared.Reading.{Reading}
-use Rattle.isa.specs.declared.Reading.TheVariants.{Is, Refused}
-use Rattle.isa.specs.Instruction.{is_formed, answer}
+use Rattle.isa.specs.declared.Instr.TheVariants.{Jz, Load, Store}
 use Rattle.isa.specs.Program.{program, scan_of, fetched, decoded}
-use Rattle.isa.proofs.Answers.{reading_is, reading-no}
+use Rattle.isa.proofs.Ranges.{InRange, in_range}
 use Rattle.isa.proofs.Programs.{fetched-program, fetched-inside, decoded-fetched}
 use Rattle.cells.specs.Cells.{cells, Formed}
-use Rattle.kernel.specs.Kernel.{next, Run, going, stopped}
+use Rattle.kernel.specs.Checks.{if_checked}
+use Rattle.kernel.specs.Kernel.{next, read_at, write_at, branch, Run, going, stopped, attempt, or_kept, Writes}
+use Rattle.kernel.proofs.Writing.{write_formed}
 use Rattle.inorder.specs.declared.Register.{Register}
 use Rattle.inorder.specs.declared.InOrder.{InOrder}
-use Rattle.inorder.specs.declared.effect.Effect.{Effect}
-use Rattle.inorder.specs.declared.effect.OperandPair.{OperandPair}
-use Rattle.inorder.specs.Machine.{held, put, with, step, once}
-use Rattle.inorder.specs.Entries.{End, proceed, run_from, ended, Goes}
-use Rattle.inorder.specs.Effects.{operands, effect, left, enacted, Performs}
-use Rattle.inorder.proofs.Doing.{perform_enacts, operands_in_range, InRange, effect_in_range}
+use Rattle.inorder.specs.declared.Stepped.{Stepped}
+use Rattle.inorder.specs.Machine.{held, put, with, perform, execute, step, once, after, memory}
+use Rattle.inorder.specs.Entries.{End, proceed, run_from, ended, Goes as WentOn, Turns}
+
+-- ---- the rules that may be refused, by what was tried
+
+module _ (s : InOrder) (m : List Value) where
+  abbrev pub jumps : Result InstrAddr Refusal → Run (List Register)
+  jumps t = attempt s.counter m (λ to. going s.registers to m) t
+
+  abbrev pub loads : Reg → Result Value Refusal → Run (List Register)
+  loads r t = attempt s.counter m (λ v. going (put s.registers r v) (next s.counter) m) t
+
+  abbrev pub stores : Result (List Value) Refusal → Run (List Register)
+  stores t = attempt s.counter m (λ m'. going s.registers (next s.counter) m') t
+
+-- the machine at the next address, unless a store is refused
+abbrev pub moved : InOrder → Result Unit Refusal → InOrder
+moved s (Ok x) = with s (next s.counter) s.registers
+moved s (Err n) = s
+
+store_moves : (s : InOrder) (m : List Value) (t : Result (List Value) Refusal) → record { machine = moved s (verdict_of t); stop = faulted (verdict_of t) } ≡ after s (stores s m t)
+store_moves s m (Ok m') = refl
+store_moves s m (Err n) = refl
+
+store_leaves : (s : InOrder) (m : List Value) (t : Result (List Value) Refusal) → or_kept m t ≡ memory (stores s m t)
+store_leaves s m (Ok m') = refl
+store_leaves s m (Err n) = refl
 
 -- ---- a step
 
--- what an instruction's effect e and memory b' say of the step of the machine s
-pub record Turn (p : List ℕ) (s : InOrder) (b : List ℕ) (e : Effect) (b' : List ℕ) : Type 0 where
-  pub does : once (program p) s (cells b) ≡ enacted s.registers s.counter (cells b') e
-  pub formed : Formed b → Formed b'
-  pub writes : InRange e
-
-module _ (p : List ℕ) (pre : scan_of p ≡ accepted) (s : InOrder) {r : Reading} (f : r ≡ answer (decoded p s.counter)) where
-  pub no_instruction_lem : {why : ℕ} → r ≡ Refused why → (m : List Value) → once (program p) s m ≡ stopped s.counter why m
+module _ (p : List ℕ) (pre : scan_of p ≡ accepted) (s : InOrder) where
+  once_decoded : (m : List Value) → once (program p) s m ≡ execute s.registers s.counter m (decoded p s.counter)
   unfolding step
-  no_instruction_lem g m =
-      let no = sym (fetched-program p pre s.counter) ∙ sym (decoded-fetched p pre s.counter) ∙ reading-no (decoded p s.counter) f g in
-      rw no refl
+  once_decoded m = ap (execute s.registers s.counter m) (sym (fetched-program p pre s.counter) ∙ sym (decoded-fetched p pre s.counter))
 
-  module _ {i : Instr} (g : r ≡ Is i) where
-    found : fetched p s.counter ≡ got i
-    found = sym (decoded-fetched p pre s.counter) ∙ reading_is (decoded p s.counter) f g
+  pub no_instruction_lem : {d : Result Instr Refusal} {why : Refusal} (b : List ℕ) → d ≡ decoded p s.counter → d ≡ Err why → Turns p s b (Err why) s b
+  no_instruction_lem b e g =
+      let no = once_decoded (cells b) ∙ ap (execute s.registers s.counter (cells b)) (sym e ∙ g) in
+      record { answer = sym (ap (after s) no); holds = sym (ap memory no); formed = λ f. f }
+
+  module _ {d : Result Instr Refusal} (e : d ≡ decoded p s.counter) {i : Instr} (g : d ≡ Ok i) where
+    found : fetched p s.counter ≡ Ok i
+    found = sym (decoded-fetched p pre s.counter) ∙ sym e ∙ g
 
     pub inside : s.counter.0 < 1024
     inside = (fetched-inside p pre s.counter i found).0
 
-    formed : is_formed i ≡ true
-    formed = (fetched-inside p pre s.counter i found).1
+    pub registers_in_range : InRange i
+    registers_in_range = in_range i (fetched-inside p pre s.counter i found).1
 
-    module _ {o : OperandPair} (q : o ≡ operands i) where
-      pub reads_first : o.first.0 < 32
-      reads_first = rw q (operands_in_range i formed).0
+    -- what the instruction makes of the machine is its turn
+    pub turned : {b b' : List ℕ} {r : Result Unit Refusal} {s' : InOrder} {t : Run (List Register)} → perform s.registers s.counter (cells b) i ≡ t
+        → record { machine = s'; stop = faulted r } ≡ after s t → cells b' ≡ memory t → (Formed b → Formed b') → Turns p s b r s' b'
+    turned {b} u a m f =
+        let does = once_decoded (cells b) ∙ ap (execute s.registers s.counter (cells b)) (sym e ∙ g) ∙ u in
+        record { answer = a ∙ sym (ap (after s) does); holds = m ∙ sym (ap memory does); formed = f }
 
-      pub reads_second : o.second.0 < 32
-      reads_second = rw q (operands_in_range i formed).1
+  -- ---- the turns that may be refused, where x and y are what the registers hold
 
-      abbrev x : Value
-      x = held s.registers o.first
+  module _ {d : Result Instr Refusal} (e : d ≡ decoded p s.counter) {b : List ℕ} where
+    pub jump_turns : {r1 r2 : Reg} → d ≡ Ok (Jz r1 r2) → {x y : Value} → x ≡ held s.registers r1 → y ≡ held s.registers r2
+        → {t t' : Result InstrAddr Refusal} → t ≡ branch s.counter x y → t ≡ t' → {r : Result Unit Refusal} {s' : InOrder}
+        → record { machine = s'; stop = faulted r } ≡ after s (jumps s (cells b) t') → cells b ≡ memory (jumps s (cells b) t') → Turns p s b r s' b
+    jump_turns g left right h is a m = turned e g (ap (jumps s (cells b)) (ap₂ (branch s.counter) (sym left) (sym right) ∙ sym h ∙ is)) a m (λ f. f)
 
-      abbrev y : Value
-      y = held s.registers o.second
+    pub load_turns : {r1 r2 : Reg} → d ≡ Ok (Load r1 r2) → {x : Value} → x ≡ held s.registers r2
+        → {t t' : Result Value Refusal} → t ≡ read_at (cells b) x → t ≡ t' → {r : Result Unit Refusal} {s' : InOrder}
+        → record { machine = s'; stop = faulted r } ≡ after s (loads s (cells b) r1 t') → cells b ≡ memory (loads s (cells b) r1 t') → Turns p s b r s' b
+    load_turns {r1} g left h is a m = turned e g (ap (loads s (cells b) r1) (ap (read_at (cells b)) (sym left) ∙ sym h ∙ is)) a m (λ f. f)
 
-      -- what is enacted with these operands
-      abbrev with_operands : List ℕ → OperandPair → Run (List Register)
-      with_operands b k =
-          let u = held s.registers k.first in
-          let v = held s.registers k.second in
-          enacted s.registers s.counter (left i u v (cells b)) (effect i s.counter u v (cells b))
-
-      pub turn : {b b' : List ℕ} {e : Effect} → Performs i s.counter x y b e b' → Turn p s b e b'
-      unfolding step
-      turn {b} {b'} {e} d =
-          let there = sym (fetched-program p pre s.counter) ∙ found in
-          record {
-            does =
-                rw there
-                (perform_enacts s.registers s.counter (cells b) i
-                ∙ ap (with_operands b) (sym q)
-                ∙ ap₂ (enacted s.registers s.counter) (sym d.holds) (sym d.answer));
-            formed = d.formed;
-            writes = subst InRange (sym d.answer) (effect_in_range s.counter x y (cells b) i formed);
-          }
+    pub store_turns : {r1 r2 : Reg} → d ≡ Ok (Store r1 r2) → {x y : Value} → x ≡ held s.registers r1 → y ≡ held s.registers r2
+        → {b' : List ℕ} {r r' : Result Unit Refusal} → Writes b x y r b' → r ≡ r' → Turns p s b r' (moved s r') b'
+    store_turns {r1} {r2} g {x} left right w is =
+        let t = write_at (cells b) (held s.registers r1) (held s.registers r2) in
+        let verdict = sym is ∙ w.answer ∙ ap₂ (λ u v. verdict_of (write_at (cells b) u v)) left right in
+        turned e g refl
+        (ap (λ (k : Result Unit Refusal). record { machine = moved s k; stop = faulted k }) verdict ∙ store_moves s (cells b) t)
+        (w.holds ∙ ap₂ (λ u v. or_kept (cells b) (write_at (cells b) u v)) left right ∙ store_leaves s (cells b) t)
+        (write_formed x w)
 
 -- ---- the loop of a run
+
+-- what comes after a step that left the machine and memory so
+abbrev pub resumed : (InOrder → List Value → End) → ℕ → List Value → Stepped → End
+resumed rest n m w = if_checked w.stop (rest w.machine m) (record { machine = w.machine; executed = n; stop = w.stop; memory = m })
+
+pub resumes : (rest : InOrder → List Value → End) (s : InOrder) (n : ℕ) (t : Run (List Register)) → proceed rest s n t ≡ resumed rest n (memory t) (after s t)
+resumes rest s n (going rf ia m) = refl
+resumes rest s n (stopped ia why m) = refl
 
 -- the run from here on is the whole run
 pub record Left (p : List ℕ) (s₀ : InOrder) (b₀ : List ℕ) (budget : ℕ) (s : InOrder) (b : List ℕ) (n : ℕ) : Type 0 where
   pub rest : run_from (program p) (budget - n) s n (cells b) ≡ run_from (program p) budget s₀ 0 (cells b₀)
-  pub below : n ≤ budget
-  pub long : length b ≡ length b₀
   pub formed : Formed b₀ → Formed b
 
-module _ (p : List ℕ) (s : InOrder) (b : List ℕ) (budget : ℕ) where
-  pub run_begins : Left p s b budget s b 0
-  run_begins =
-      let all : budget - 0 ≡ budget = omega arith in
-      record { rest = rw all refl; below = omega arith; long = refl; formed = λ f. f }
-
 module _ {p : List ℕ} {s₀ : InOrder} {b₀ : List ℕ} {budget : ℕ} {s : InOrder} {b : List ℕ} {n : ℕ} (l : Left p s₀ b₀ budget s b n) where
-  module _ (h : n < budget) {b' : List ℕ} (form : Formed b → Formed b') where
-    -- what is left is a step and the rest
-    first : {t : Run (List Register)} → once (program p) s (cells b) ≡ t
-        → proceed (λ s' m'. run_from (program p) (budget - (n + 1)) s' (n + 1) m') s n t ≡ run_from (program p) budget s₀ 0 (cells b₀)
+  module _ (h : n < budget) {r : Result Unit Refusal} {s' : InOrder} {b' : List ℕ} (t : Turns p s b r s' b') where
+    -- what is left after n + 1
+    abbrev later : InOrder → List Value → End
+    later u m = run_from (program p) (budget - (n + 1)) u (n + 1) m
+
+    first : {r' : Result Unit Refusal} → r ≡ r'
+        → resumed later n (cells b') (record { machine = s'; stop = faulted r' }) ≡ run_from (program p) budget s₀ 0 (cells b₀)
     unfolding run_from
-    first e =
+    first g =
         let one : suc (budget - (n + 1)) ≡ budget - n = omega arith in
-        ap (proceed (λ s' m'. run_from (program p) (budget - (n + 1)) s' (n + 1) m') s n) (sym e)
+        ap (λ (k : Result Unit Refusal). resumed later n (cells b') (record { machine = s'; stop = faulted k })) (sym g)
+        ∙ ap₂ (resumed later n) t.holds t.answer
+        ∙ sym (resumes later s n (once (program p) s (cells b)))
         ∙ ap (λ (k : ℕ). run_from (program p) k s n (cells b)) one
         ∙ l.rest
 
-    again : {rf : List Register} {ia : InstrAddr} → once (program p) s (cells b) ≡ going rf ia (cells b') → length b' ≡ length b
-        → Left p s₀ b₀ budget (with s ia rf) b' (n + 1)
-    again e long = record { rest = first e; below = omega arith; long = long ∙ l.long; formed = λ f. form (l.formed f) }
+    pub goes_on : r ≡ Ok tt → Left p s₀ b₀ budget s' b' (n + 1)
+    goes_on g = record { rest = first g; formed = λ f. t.formed (l.formed f) }
 
-    pub run_stops : {ia : InstrAddr} {why : ℕ} → once (program p) s (cells b) ≡ stopped ia why (cells b')
-        → Goes p s₀ b₀ budget (record { machine = s; executed = n; stop = why; number = 0 }) b'
-    run_stops e =
-        let whole = first e in
-        record { answer = ap ended whole; holds = ap (λ (x : End). x.memory) whole; formed = λ f. form (l.formed f) }
+    pub stops_at : {why : Refusal} → r ≡ Err why → WentOn p s₀ b₀ budget (record { machine = s'; executed = n; stop = refused why 0 }) b'
+    stops_at g =
+        let whole = first g in
+        record { answer = ap ended whole; holds = ap (λ (x : End). x.memory) whole; formed = λ f. t.formed (l.formed f) }
 
-  module _ (h : n < budget) {b' : List ℕ} {e : Effect} (t : Turn p s b e b') where
-    does : {e' : Effect} → e ≡ e' → once (program p) s (cells b) ≡ enacted s.registers s.counter (cells b') e'
-    does q = t.does ∙ ap (enacted s.registers s.counter (cells b')) q
-
-    pub goes_on : {to : InstrAddr} → e ≡ Effect.Goes to → length b' ≡ length b → Left p s₀ b₀ budget (with s to s.registers) b' (n + 1)
-    goes_on q = again h t.formed (does q)
-
-    pub puts_on : {r : Reg} {v : Value} → e ≡ Effect.Puts r v → length b' ≡ length b
-        → Left p s₀ b₀ budget (with s (next s.counter) (put s.registers r v)) b' (n + 1)
-    puts_on q = again h t.formed (does q)
-
-    pub stops_at : {why : ℕ} → e ≡ Effect.Stops why → Goes p s₀ b₀ budget (record { machine = s; executed = n; stop = why; number = 0 }) b'
-    stops_at q = run_stops h t.formed (does q)
-
-    pub writes_one : {r : Reg} {v : Value} → e ≡ Effect.Puts r v → r.0 < 32
-    writes_one q = subst InRange q t.writes
-
-  pub run_ends : budget ≤ n → Goes p s₀ b₀ budget (record { machine = s; executed = n; stop = 0; number = 0 }) b
-  unfolding run_from
-  run_ends h =
-      let none : budget - n ≡ 0 = omega arith in
-      let whole = ap (λ (k : ℕ). run_from (program p) k s n (cells b)) (sym none) ∙ l.rest in
-      record { answer = ap ended whole; holds = ap (λ (x : End). x.memory) whole; formed = l.formed }
+pub run_ends : {p : List ℕ} {s₀ : InOrder} {b₀ : List ℕ} {budget : ℕ} {s : InOrder} {b : List ℕ} {n : ℕ} → Left p s₀ b₀ budget s b n → budget ≤ n → n ≤ budget
+    → WentOn p s₀ b₀ budget (record { machine = s; executed = budget; stop = accepted }) b
+unfolding run_from
+run_ends {p} {s₀} {b₀} {budget} {s} {b} {n} l above below =
+    let none : budget - n ≡ 0 = omega arith in
+    let all : budget ≡ n = omega arith in
+    let whole = ap (λ (k : ℕ). run_from (program p) 0 s k (cells b)) all ∙ ap (λ (k : ℕ). run_from (program p) k s n (cells b)) (sym none) ∙ l.rest in
+    record { answer = ap ended whole; holds = ap (λ (x : End). x.memory) whole; formed = l.formed }

@@ -1,7 +1,8 @@
 -- The in-order machine: the rules of the memo's section 4.
-use Rattle.std.specs.Prelude.{ℕ, zero, suc, List, get_or, set, replicate}
+use Rattle.std.specs.Prelude.{ℕ, zero, suc, List, get_or, set, replicate, Result}
 use Rattle.std.proofs.Math.ListN.{get_elem?}
-use Rattle.records.specs.Try.{Try}
+use Rattle.records.specs.declared.Refusal.{Refusal}
+use Rattle.records.specs.Scan.{refused, accepted}
 use Rattle.value.specs.declared.Value.{Value}
 use Rattle.value.specs.declared.Value.TheVariants.{Word}
 use Rattle.value.specs.Operation.{undefined, result_of}
@@ -39,7 +40,7 @@ perform rf ia m (Load r r1) = attempt ia m (λ v. going (put rf r v) (next ia) m
 perform rf ia m (Store r1 r2) = attempt ia m (λ m'. going rf (next ia) m') (write_at m (held rf r1) (held rf r2))
 
 -- the instruction that was fetched, if there is one
-abbrev pub execute : List Register → InstrAddr → List Value → Try Instr → Run (List Register)
+abbrev pub execute : List Register → InstrAddr → List Value → Result Instr Refusal → Run (List Register)
 execute rf ia m i = attempt ia m (perform rf ia m) i
 
 -- ---- the machine
@@ -70,8 +71,8 @@ once prog s m = step prog (going s.registers s.counter m)
 
 -- the machine moved on, or stopped as it was
 abbrev pub after : InOrder → Run (List Register) → Stepped
-after s (going rf ia m) = record { machine = with s ia rf; stop = 0; number = 0 }
-after s (stopped ia n m) = record { machine = s; stop = n; number = 0 }
+after s (going rf ia m) = record { machine = with s ia rf; stop = accepted }
+after s (stopped ia n m) = record { machine = s; stop = refused n 0 }
 
 abbrev pub memory : {E : Type 0} → Run E → List Value
 memory (going e ia m) = m

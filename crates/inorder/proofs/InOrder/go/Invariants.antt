@@ -1,10 +1,6 @@
 -- What is left of the run is kept at each turn of the loop.
-use Prim.Native.Nat.{◌-◌}
 use Rattle.inorder.proofs.Running.{Left}
 use Rattle.inorder.proofs.InOrder.go.Given as goal
 
 abbrev pub invariant-loop-executed : goal.invariant-loop-executed
 invariant-loop-executed l = Left l.program l.initial.machine l.initial.memory l.budget l.machine l.memory l.executed
-
-abbrev pub decreases-loop-executed : goal.decreases-loop-executed
-decreases-loop-executed l = l.budget - l.executed

@@ -4,11 +4,11 @@ use Rattle.kernel.proofs.Checking.{checked-program}
 use Rattle.inorder.proofs.Entering.{run-refused, run-done}
 use Rattle.inorder.proofs.InOrder.run.Goals as goal
 
-pub returns-then-verdict-ne0 : goal.returns-then-verdict-ne0
-returns-then-verdict-ne0 c = run-refused c.args.program.now c.args.self c.args.memory.now c.enter-verdict.ensures c.args.budget c.if-verdict-ne0.true
-
 pub go-requires : goal.go-requires
-go-requires c = checked-program c.args.program.now c.args.memory.now c.enter-verdict.ensures c.if-verdict-ne0.false
+go-requires c = checked-program c.args.program.now c.args.memory.now c.enter.ensures c.in-Ok.is
 
-pub returns : goal.returns
-returns c = run-done c.args.program.now c.args.self c.args.memory.now c.enter-verdict.ensures c.args.budget c.if-verdict-ne0.false (λ i. search rules) c.go.ensures
+pub returns-in-Ok : goal.returns-in-Ok
+returns-in-Ok c = run-done c.args.program.now c.args.self c.args.memory.now c.enter.ensures c.args.budget c.in-Ok.is (λ i. search rules) c.go.ensures
+
+pub returns-in-Err : goal.returns-in-Err
+returns-in-Err c = run-refused c.args.program.now c.args.self c.args.memory.now c.enter.ensures c.args.budget c.in-Err.is
