@@ -1,8 +1,9 @@
 -- The lines of a report.
-use Rattle.std.specs.Prelude.{ℕ, ◌+◌, ◌≤◌, List, [], ◌++◌}
+use Rattle.std.specs.Prelude.{◌≡◌, ℕ, ◌+◌, ◌≤◌, List, [], ◌++◌}
 use Rattle.value.specs.declared.Value.{Value}
 use Rattle.value.specs.declared.Value.TheVariants.{Undefined, Word}
 use Rattle.isa.specs.declared.InstrAddr.{InstrAddr}
+use Rattle.text.specs.declared.Page.{Page}
 use Rattle.text.specs.Text.{Put, ascii, decimal}
 use Rattle.templates.specs.declared.Operand.{Operand}
 use Rattle.templates.specs.declared.Operand.TheVariants.{Known, Waits}
@@ -63,3 +64,8 @@ cell_text i v = value_text (ascii "m") i v
 pub record Puts (b : List ℕ) (at : ℕ) (t : List ℕ) (k : ℕ) (r : ℕ) (b' : List ℕ) : Type 0 where
   pub text : Put b at t r b'
   pub most : r ≤ at + k
+
+-- such a text is put at p's place: q is of the same buffer, and its place is the one behind
+pub record AddsWithin (p : Page) (t : List ℕ) (k : ℕ) (q : Page) : Type 0 where
+  pub same_buffer : q.out.ghost_name ≡ p.out.ghost_name
+  pub puts : Puts p.out.now p.at t k q.at q.out.now

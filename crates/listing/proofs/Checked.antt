@@ -1,63 +1,43 @@
--- What the verdict on a program and its buffer makes of the answer.
-use mathlib.Core.Path.{◌≡◌, refl, sym, ap, ap₂, ◌∙◌}
-use mathlib.Core.Logic.{◌≢◌}
+-- What the check of a program and its buffer makes of the answer.
+use mathlib.Core.Path.{◌≡◌, refl, sym, ap, ◌∙◌}
 use Prim.Native.Nat.{ℕ, ◌*◌, ◌/◌, ◌<◌, ◌≤◌}
 use native.Mathlib.Omega.{arith}
 use mathlib.Core.Bool.{Bool, true, false, cond}
 use mathlib.Core.List.{List}
-use lib.Dec.{eqb, ltb}
+use lib.Dec.{ltb}
 use lib.ListN.{length, get_or}
-use borrow.Author.Tests.{eq-eqb, ne_eqb, ltb-false}
-use Rattle.records.specs.declared.Verdict.{Verdict}
-use Rattle.records.specs.Refusal.{bad_length, bad_instruction}
-use Rattle.records.specs.Scan.{verdict}
-use Rattle.records.proofs.Leading.{scan_accepts}
-use Rattle.isa.specs.Program.{is_instr, scan_of}
+use borrow.Author.Tests.{ltb-false}
+use Rattle.std.specs.Prelude.{Ok, Err}
+use Rattle.records.specs.declared.Fault.{Fault}
+use Rattle.records.specs.declared.Refusal.TheVariants.{BadLength}
+use Rattle.records.specs.Scan.{refused, accepted}
+use Rattle.isa.specs.Program.{scan_of}
 use Rattle.isa.proofs.Programs.{program-whole}
 use Rattle.text.specs.Text.{Put}
 use Rattle.text.proofs.Puts.{put-into}
-use Rattle.listing.specs.declared.Listed.{Listed}
-use Rattle.listing.specs.Listing.{listing, room, checked, answered, Lists}
+use Rattle.listing.specs.Listing.{listing, room, checked, Lists}
 use Rattle.listing.proofs.Lengths.{listing_short}
 
--- ---- a program that was accepted, and the buffer
-scan_few : (p : List ℕ) → (scan_of p).refusal ≡ 0 → length p ≤ 8192
-unfolding scan_of
-scan_few p e = (program-whole p (scan_accepts bad_instruction is_instr p (λ z. omega arith) e)).few
+module _ (p out : List ℕ) where
+  pub lists_none : {f : Fault} → Err f ≡ checked p (length out) → Lists p out (Err f) out
+  lists_none e = record { answer = rw (sym e) refl; output = rw (sym e) refl }
 
-module _ (p : List ℕ) (n : ℕ) (e : (checked p n).refusal ≡ 0) where
-  passed : (room * (length p / 8) ≤ n) × ((scan_of p).refusal ≡ 0)
-  unfolding checked
-  passed = go (ltb n (room * (length p / 8))) refl e
-    where
-      go : (t : Bool) → ltb n (room * (length p / 8)) ≡ t → (cond t (verdict bad_length 0) (scan_of p)).refusal ≡ 0 → (room * (length p / 8) ≤ n) × ((scan_of p).refusal ≡ 0)
-      go true f g = absurd (omega arith)
-      go false f g = (ltb-false n (room * (length p / 8)) f, g)
-
--- ---- the answer
-module _ (p out : List ℕ) {v : Verdict} (e : v ≡ checked p (length out)) where
-  same_refusal : v.refusal ≡ (checked p (length out)).refusal
-  same_refusal = ap (λ (v : Verdict). v.refusal) e
-
-  pub lists_none : {r : Listed} → v.refusal ≢ 0 → r ≡ answered v 0 → Lists p out r out
-  lists_none ne g =
-      let test : eqb (checked p (length out)).refusal 0 ≡ false = ne_eqb _ 0 (λ z. ne (same_refusal ∙ z)) in
-      record { answer = g ∙ ap (λ (v : Verdict). answered v 0) e ∙ rw test refl; output = rw test refl }
-
-  module _ (z : v.refusal ≡ 0) where
-    accepted : (room * (length p / 8) ≤ length out) × ((scan_of p).refusal ≡ 0)
-    accepted = passed p (length out) (sym same_refusal ∙ z)
+  module _ (e : accepted ≡ checked p (length out)) where
+    passed : (room * (length p / 8) ≤ length out) × (scan_of p ≡ accepted)
+    unfolding checked
+    passed = go (ltb (length out) (room * (length p / 8))) refl (sym e)
+      where
+        go : (t : Bool) → ltb (length out) (room * (length p / 8)) ≡ t → cond t (refused BadLength 0) (scan_of p) ≡ accepted
+            → (room * (length p / 8) ≤ length out) × (scan_of p ≡ accepted)
+        go true f g = cc
+        go false f g = (ltb-false (length out) (room * (length p / 8)) f, g)
 
     pub accepted_few : length p ≤ 8192
-    accepted_few = scan_few p accepted.1
+    accepted_few = (program-whole p passed.1).few
 
-    pub lists_all : {r : Listed} {n : ℕ} {out' : List ℕ} → ((i : ℕ) → get_or p i 0 < 256) → Put out 0 (listing p) n out' → r ≡ answered v n → Lists p out r out'
-    lists_all {r} {n} small q g =
-        let enough = accepted.0 in
+    pub lists_all : {n : ℕ} {b out' : List ℕ} → ((i : ℕ) → get_or p i 0 < 256) → Put out 0 (listing p) n b → out' ≡ b → Lists p out (Ok n) out'
+    lists_all small q same =
+        let enough = passed.0 in
         let short = listing_short p accepted_few small in
         let whole = put-into q (omega arith) in
-        let test : eqb (checked p (length out)).refusal 0 ≡ true = eq-eqb _ 0 (sym same_refusal ∙ z) in
-        record {
-          answer = g ∙ ap₂ answered e whole.0 ∙ rw test refl;
-          output = rw test whole.1;
-        }
+        record { answer = rw (sym e) (ap (λ (n : ℕ). Ok n) whole.0); output = rw (sym e) (same ∙ whole.1) }

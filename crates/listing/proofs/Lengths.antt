@@ -8,7 +8,8 @@ use lib.Dec.{eqb, leb}
 use lib.ListN.{length, get_or, length-append}
 use borrow.Author.Tests.{ltb-true}
 use Rattle.records.specs.declared.Record.{Record}
-use Rattle.records.specs.Try.{Try, got, fails}
+use Rattle.std.specs.Prelude.{Result, Ok, Err}
+use Rattle.records.specs.declared.Refusal.{Refusal}
 use Rattle.records.specs.Records.{record_from, tabulate, records}
 use Rattle.records.proofs.Basics.{both}
 use Rattle.isa.specs.declared.Reg.{Reg}
@@ -62,15 +63,15 @@ unfolding line_text
 line_short a i l f h = let d = decimal_width 4 a (omega arith) (omega arith) in let b = body_short i f h in simp length-append (omega arith)
 
 -- ---- the listing
-lead_short : (a : ℕ) (r : Record) (is : List Instr) (n : ℕ) (t : Try Instr)
+lead_short : (a : ℕ) (r : Record) (is : List Instr) (n : ℕ) (t : Result Instr Refusal)
     → parse r ≡ t → a < 1024 → r.word < 2 ^ 32 → length (numbered line_text (suc a) is) ≤ room * n → length (numbered line_text a (leads t is)) ≤ room * suc n
 unfolding numbered
-lead_short a r is n (got i) e l h rest =
+lead_short a r is n (Ok i) e l h rest =
     let p = record-parsed r i e in
     let word : (record_of i).word ≡ r.word = ap (λ (r : Record). r.word) p.same in
     let line = line_short a i l p.formed (omega arith) in
     simp length-append (omega arith)
-lead_short a r is n (fails m) e l h rest = omega arith
+lead_short a r is n (Err m) e l h rest = omega arith
 
 lines_short : (a n : ℕ) (f : ℕ → Record) → a + n ≤ 1024 → ((i : ℕ) → (f i).word < 2 ^ 32) → length (numbered line_text a (instructions (tabulate n f))) ≤ room * n
 unfolding numbered

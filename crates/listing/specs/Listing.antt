@@ -1,14 +1,13 @@
 -- The text of a program: a line for each instruction, with its address.
-use Rattle.std.specs.Prelude.{◌≡◌, ℕ, ◌*◌, ◌/◌, cond, List, ◌++◌, eqb, ltb, length}
-use Rattle.records.specs.declared.Verdict.{Verdict}
-use Rattle.records.specs.Refusal.{bad_length}
-use Rattle.records.specs.Scan.{verdict}
+use Rattle.std.specs.Prelude.{◌≡◌, ℕ, ◌*◌, ◌/◌, cond, List, ◌++◌, eqb, ltb, length, Result, Ok, Err}
+use Rattle.records.specs.declared.Fault.{Fault}
+use Rattle.records.specs.declared.Refusal.TheVariants.{BadLength}
+use Rattle.records.specs.Scan.{refused}
 use Rattle.isa.specs.declared.Reg.{Reg}
 use Rattle.isa.specs.declared.Instr.{Instr}
 use Rattle.isa.specs.declared.Instr.TheVariants.{Loadc, Loadpc, Op, Jz, Load, Store}
 use Rattle.isa.specs.Program.{program, scan_of}
 use Rattle.text.specs.Text.{into, ascii, decimal, numbered}
-use Rattle.listing.specs.declared.Listed.{Listed}
 
 -- ---- a line
 
@@ -50,23 +49,25 @@ abbrev pub room : ℕ
 room = 31
 
 -- a buffer of n bytes that is too short is refused as the program's length is, before any record
-unfoldable pub checked : List ℕ → ℕ → Verdict
-checked p n = cond (ltb n (room * (length p / 8))) (verdict bad_length 0) (scan_of p)
+unfoldable pub checked : List ℕ → ℕ → Result Unit Fault
+checked p n = cond (ltb n (room * (length p / 8))) (refused BadLength 0) (scan_of p)
 
-abbrev pub if_accepted : {A : Type 0} → Verdict → A → A → A
-if_accepted v x y = cond (eqb v.refusal 0) x y
+abbrev pub if_accepted : {A : Type 0} → Result Unit Fault → A → A → A
+if_accepted (Ok u) x y = x
+if_accepted (Err f) x y = y
 
-abbrev pub answered : Verdict → ℕ → Listed
-answered v n = record { refusal = v.refusal; number = v.number; written = n }
+abbrev pub answered : Result Unit Fault → ℕ → Result ℕ Fault
+answered (Ok u) n = Ok n
+answered (Err f) n = Err f
 
--- the answer: the verdict, and how many bytes were written
-abbrev pub listed : List ℕ → List ℕ → Listed
-listed p out = let v = checked p (length out) in answered v (if_accepted v (length (listing p)) 0)
+-- the answer: how many bytes were written, or the fault
+abbrev pub listed : List ℕ → List ℕ → Result ℕ Fault
+listed p out = answered (checked p (length out)) (length (listing p))
 
 -- what the buffer holds then
 abbrev pub listed_into : List ℕ → List ℕ → List ℕ
 listed_into p out = if_accepted (checked p (length out)) (into out (listing p)) out
 
-pub record Lists (p out : List ℕ) (r : Listed) (out' : List ℕ) : Type 0 where
+pub record Lists (p out : List ℕ) (r : Result ℕ Fault) (out' : List ℕ) : Type 0 where
   pub answer : r ≡ listed p out
   pub output : out' ≡ listed_into p out

@@ -2,3 +2,4 @@
 pub mod Puts
 pub mod Decimal
 pub mod Numbered
+pub mod Pages

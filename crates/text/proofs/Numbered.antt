@@ -1,27 +1,29 @@
--- The loop over numbered texts: with those that remain, what is written is all of them.
+-- The loop over numbered texts: with those that remain, what is added is all of them.
 use mathlib.Core.Path.{◌≡◌, sym, ap}
 use Prim.Native.Nat.{ℕ, suc, ◌+◌}
 use native.Mathlib.Numerals.{add-one}
 use mathlib.Core.List.{List, [], ◌∷◌}
-use Rattle.text.specs.Text.{Put, numbered}
-use Rattle.text.proofs.Puts.{put-nothing, put_as, puts}
+use Rattle.text.specs.declared.Page.{Page}
+use Rattle.text.specs.Page.{Adds}
+use Rattle.text.specs.Text.{numbered}
+use Rattle.text.proofs.Pages.{adds-nothing, adds_as, adds}
 
 -- `rest i` are the things from number i on
-module _ {A : Type 0} (f : ℕ → A → List ℕ) (rest : ℕ → List A) (b : List ℕ) (from : ℕ) where
-  -- the texts before number i are written: with the others after them, all are
-  abbrev pub Written : ℕ → ℕ → List ℕ → Type 0
-  Written i at b' = (r : ℕ) (b'' : List ℕ) → Put b' at (numbered f i (rest i)) r b'' → Put b from (numbered f 0 (rest 0)) r b''
+module _ {A : Type 0} (f : ℕ → A → List ℕ) (rest : ℕ → List A) (p : Page) where
+  -- the texts before number i are added: with the others after them, all are
+  abbrev pub Added : ℕ → Page → Type 0
+  Added i q = (r : Page) → Adds q (numbered f i (rest i)) r → Adds p (numbered f 0 (rest 0)) r
 
-  pub written_none : Written 0 from b
-  written_none r b'' q = q
+  pub added-none : Added 0 p
+  added-none r a = a
 
-  module _ (i at : ℕ) (b' : List ℕ) (w : Written i at b') where
-    pub written_more : {x : A} {to : ℕ} {c : List ℕ} → rest i ≡ x ∷ rest (suc i) → Put b' at (f i x) to c → Written (i + 1) to c
+  module _ {i : ℕ} {q : Page} (w : Added i q) where
+    pub added_more : {x : A} {s : Page} → rest i ≡ x ∷ rest (suc i) → Adds q (f i x) s → Added (i + 1) s
     unfolding numbered
-    written_more {x} e p r b'' q =
-        let more : Put _ _ (numbered f (suc i) (rest (suc i))) r b'' = put_as q (ap (λ (n : ℕ). numbered f n (rest n)) (add-one i)) in
-        w r b'' (put_as (puts p more) (ap (numbered f i) (sym e)))
+    added_more {x} e a r b =
+        let more : Adds _ (numbered f (suc i) (rest (suc i))) r = adds_as b (ap (λ (n : ℕ). numbered f n (rest n)) (add-one i)) in
+        w r (adds_as (adds a more) (ap (numbered f i) (sym e)))
 
-    pub written_all : rest i ≡ [] → Put b from (numbered f 0 (rest 0)) at b'
+    pub added_all : rest i ≡ [] → Adds p (numbered f 0 (rest 0)) q
     unfolding numbered
-    written_all e = w at b' (put_as (put-nothing b' at) (ap (numbered f i) (sym e)))
+    added_all e = w q (adds_as (adds-nothing q) (ap (numbered f i) (sym e)))

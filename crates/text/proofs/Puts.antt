@@ -2,11 +2,12 @@
 use mathlib.Core.Path.{◌≡◌, refl, sym, ap, ap₂, subst, ◌∙◌}
 use Prim.Native.Nat.{ℕ, suc, ◌+◌, ◌-◌, ◌<◌, ◌≤◌, min}
 use native.Mathlib.Nat.{add-zero, zero-add}
-use native.Mathlib.Numerals.{add-one}
 use native.Mathlib.Omega.{arith, sub_cases}
 use mathlib.Core.List.{List, [], ◌∷◌, ◌++◌}
-use lib.ListN.{length, take, drop, get_or, set, length-append, take-append-drop}
-use lib.Seq.{sets, length-sets, set_out, sets-eq, take_all, take-suc}
+use lib.ListN.{length, take, drop, set, length-append, take-append-drop}
+use borrow.Rule.Slice.PartMut.{put_mid}
+use lib.Seq.{sets, length-sets, set_out, sets-eq, take_all}
+use Rattle.std.proofs.lemmas.List.{append_assoc, drop-drop, length-take-le}
 use Rattle.text.specs.Text.{Put, into}
 
 -- ---- a run of stores
@@ -66,13 +67,13 @@ pub put-into : {b t : List ℕ} {r : ℕ} {b' : List ℕ} → Put b 0 t r b' →
 put-into {b} {t} p h =
     (omega (arith, p.next), p.holds ∙ sets-eq t b 0 (omega arith) ∙ ap (λ (k : ℕ). t ++ drop k b) (zero-add (length t)))
 
--- ---- a text byte by byte: its first i are written
-module _ {b : List ℕ} {at : ℕ} (t : List ℕ) (i : ℕ) {r : ℕ} {b' : List ℕ} (p : Put b at (take i t) r b') where
-  pub put_step : i < length t → r < length b' → Put b at (take (i + 1) t) (r + 1) (set b' r (get_or t i 0))
-  put_step h l = rw (add-one i, take-suc t i 0 h) (puts p (put_byte b' r (get_or t i 0) l))
-
-  pub put_stop : length b' ≤ r → Put b at t r b'
-  put_stop h = put_as (puts p (put_full b' r (drop i t) h)) (take-append-drop i t)
-
-  pub put_all : length t ≤ i → Put b at t r b'
-  put_all h = put_as p (take_all i t h)
+-- ---- as much of a text as has room is copied: its first n, the least that the text and the buffer have
+pub put_copied : (b : List ℕ) (at : ℕ) (t : List ℕ) (n k r : ℕ) (m : List ℕ) → at ≤ length b → n ≡ min (length t) (length b - at) → k ≡ n → r ≡ at + n → m ≡ take n t → Put b at t r (put_mid at k b m)
+put_copied b at t n k r m h en ek er em =
+    let short : n ≤ length t = omega (arith, en) in
+    let long : length (take n t) ≡ n = length-take-le n t short in
+    let room : at + length (take n t) ≤ length b = omega arith in
+    let p : Put b at (take n t) r (put_mid at k b m) = record { next = omega arith; holds = rw (ek, em, drop-drop, sets-eq (take n t) b at room, long, append_assoc) refl } in
+    sub_cases (length b) (at + length t) _
+    (λ l _. put_as p (take_all n t (omega arith)))
+    (λ l _. let full : length (put_mid at k b m) ≤ r = omega (arith, put-length p) in put_as (puts p (put_full (put_mid at k b m) r (drop n t) full)) (take-append-drop n t))

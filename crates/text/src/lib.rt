@@ -1,43 +1,44 @@
-// Text, written byte by byte into a lent buffer.
+// Text, written into a lent buffer, each behind the one before.
 #![tactic(auto)]
 
 ghost use Rattle.std.specs.Prelude.{[], ◌∷◌, ◌%◌};
-ghost use Rattle.text.specs.Text.{Put, digit, decimal};
+ghost use Rattle.text.specs.Page.{Adds};
+ghost use Rattle.text.specs.Text.{digit, decimal};
 
-// Writes as much of the text as has room, and answers the place behind it.
-pub fn put(out: &mut [u8], at: usize, text: &[u8]) -> usize
-    ensures { Put out.old at text.now result out.new }
-{
-    let mut to = at;
-    let mut i: usize = 0;
-    while i < text.len() {
-        if to >= out.len() {
-            return to;
+// A lent buffer, and the place in it where the next text goes.
+#[derive(Drop)]
+pub struct Page<'a> {
+    pub out: &'a mut [u8],
+    pub at: usize,
+}
+
+impl<'a> Page<'a> {
+    // Writes as much of the text as has room.
+    pub fn put(&mut self, text: &[u8])
+        ensures { Adds self.old text.now self.new }
+    {
+        if self.at >= self.out.len() {
+            return;
         }
-        out[to] = text[i];
-        to += 1;
-        i += 1;
+        let n = text.len().min(self.out.len() - self.at);
+        self.out[self.at..self.at + n].copy_from_slice(&text[..n]);
+        self.at += n;
     }
-    to
-}
 
-fn put_digit(out: &mut [u8], at: usize, n: u64) -> usize
-    ensures { Put out.old at (digit (n % 10) ∷ []) result out.new }
-{
-    if at >= out.len() {
-        return at;
+    fn put_digit(&mut self, n: u64)
+        ensures { Adds self.old (digit (n % 10) ∷ []) self.new }
+    {
+        self.put(&[b'0' + (n % 10) as u8]);
     }
-    out[at] = 48 + (n % 10) as u8;
-    at + 1
-}
 
-// Writes a number in decimal, with no leading zero.
-pub fn put_decimal(out: &mut [u8], at: usize, n: u64) -> usize
-    ensures { Put out.old at (decimal n) result out.new }
-{
-    if n < 10 {
-        return put_digit(out, at, n);
+    // Writes a number in decimal, with no leading zero.
+    pub fn put_decimal(&mut self, n: u64)
+        ensures { Adds self.old (decimal n) self.new }
+    {
+        if n < 10 {
+            return self.put_digit(n);
+        }
+        self.put_decimal(n / 10);
+        self.put_digit(n);
     }
-    let to = put_decimal(out, at, n / 10);
-    put_digit(out, to, n)
 }

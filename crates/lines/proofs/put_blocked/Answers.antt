@@ -1,8 +1,12 @@
--- `lines::put_blocked` meets its contract: seven texts, each behind the one before.
-use Rattle.lines.proofs.Putting.{all_of, then}
+-- `lines::put_blocked` meets its contract: three numbers, each behind its text.
+use native.Mathlib.Omega.{arith}
+use Rattle.lines.proofs.Putting.{all_of, byte, word, count}
 use Rattle.lines.specs.Lines.{blocked_text}
 use Rattle.lines.proofs.put_blocked.Goals as goal
 
 pub returns : goal.returns
 unfolding blocked_text
-returns c = then (all_of c.put-first.ensures) (then c.put_word-after.ensures (then (all_of c.put-second.ensures) (then c.put_byte-then.ensures (then (all_of c.put-third.ensures) (then c.put_count-end.ensures (all_of c.put.ensures))))))
+returns c =
+    word c.put.ensures c.from.ensures (omega arith) c.put_decimal.ensures
+    (byte c.put-2.ensures c.from-2.ensures (omega arith) c.put_decimal-2.ensures
+    (count c.put-3.ensures (omega arith) c.put_decimal-3.ensures (all_of c.put-4.ensures)))

@@ -1,8 +1,9 @@
--- `lines::put_drained` meets its contract: three texts, each behind the one before.
-use Rattle.lines.proofs.Putting.{all_of, then}
+-- `lines::put_drained` meets its contract: a number behind its text.
+use native.Mathlib.Omega.{arith}
+use Rattle.lines.proofs.Putting.{all_of, count}
 use Rattle.lines.specs.Lines.{drained_text}
 use Rattle.lines.proofs.put_drained.Goals as goal
 
 pub returns : goal.returns
 unfolding drained_text
-returns c = then (all_of c.put-number.ensures) (then c.put_count-end.ensures (all_of c.put.ensures))
+returns c = count c.put.ensures (omega arith) c.put_decimal.ensures (all_of c.put-2.ensures)

@@ -2,6 +2,7 @@
 use mathlib.Core.Path.{refl}
 use Prim.Native.Nat.{◌*◌, ◌/◌, ◌<◌, ◌≤◌}
 use native.Mathlib.Omega.{arith}
+use borrow.Author.Rules.{rules}
 use lib.ListN.{length}
 use borrow.Author.Tests.{lt-ltb, le-ltb}
 use Rattle.listing.specs.Listing.{room, checked}
@@ -11,10 +12,10 @@ pub returns-then-space-program : goal.returns-then-space-program
 unfolding checked
 returns-then-space-program c =
     let short : c.args.space < room * (length c.args.program.now / 8) = omega arith in
-    rw (lt-ltb _ _ short) refl
+    rw (lt-ltb _ _ short, c.from.ensures) refl
 
 pub returns : goal.returns
 unfolding checked
 returns c =
     let enough : room * (length c.args.program.now / 8) ≤ c.args.space = omega arith in
-    rw (le-ltb _ _ enough) c.scan.ensures
+    rw (le-ltb _ _ enough) (search rules)

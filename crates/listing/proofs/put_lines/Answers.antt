@@ -1,28 +1,21 @@
 -- `listing::put_lines` meets its contract: at each turn the lines that remain complete the listing.
 use native.Mathlib.Omega.{arith}
-use Rattle.text.proofs.Numbered.{written_none, written_more, written_all}
+use mathlib.Core.Path.{sym, ◌∙◌}
+use Rattle.text.proofs.Numbered.{added_more, added_all}
 use Rattle.isa.specs.Program.{program}
 use Rattle.listing.specs.Listing.{line_text, listing}
-use Rattle.listing.proofs.Fetched.{rest, fetched-first, fetched-none, fetched_within}
+use Rattle.listing.proofs.Fetched.{rest, fetched-first, fetched-none, rest-end}
 use Rattle.listing.proofs.put_lines.Goals as goal
 
-pub loop-i-init : goal.loop-i-init
-loop-i-init c = written_none line_text (rest c.args.program.now) c.args.out.now 0
+pub loop-address-preserved : goal.loop-address-preserved
+loop-address-preserved c =
+    let first = fetched-first _ _ c.in-Ok.ensures in
+    added_more line_text (rest c.args.program.now) _ c.loop-address.invariant first c.put_line.ensures
 
-pub overflow_add-address : goal.overflow_add-address
-overflow_add-address c = let within = fetched_within _ _ c.fetch.ensures c.in-Is.is in omega arith
-
-pub loop-i-smaller : goal.loop-i-smaller
-loop-i-smaller c = let within = fetched_within _ _ c.fetch.ensures c.in-Is.is in omega arith
-
-pub loop-i-preserved : goal.loop-i-preserved
-loop-i-preserved c =
-    let l = c.loop-i in
-    let first = fetched-first _ _ c.fetch.ensures c.in-Is.is in
-    written_more line_text (rest _) _ 0 l.address l.at l.out l.invariant first c.put_line-at.ensures
-
-pub returns-in-Refused : goal.returns-in-Refused
+pub returns-in_default : goal.returns-in_default
 unfolding listing program
-returns-in-Refused c =
-    let l = c.loop-i in
-    written_all line_text (rest _) _ 0 l.address l.at l.out l.invariant (fetched-none _ _ c.fetch.ensures c.in-Refused.is)
+returns-in_default c = added_all line_text (rest c.args.program.now) _ c.loop-address.invariant (fetched-none _ _ (sym c.in_default.is ∙ c.fetch.ensures))
+
+pub returns : goal.returns
+unfolding listing program
+returns c = added_all line_text (rest c.args.program.now) _ c.loop-address.invariant (rest-end _ _ (omega arith))

@@ -1,8 +1,8 @@
 -- `listing::put_load` meets its contract: four texts, each behind the one before.
-use Rattle.text.proofs.Puts.{puts}
+use Rattle.text.proofs.Pages.{adds}
 use Rattle.listing.specs.Listing.{body_text}
 use Rattle.listing.proofs.put_load.Goals as goal
 
 pub returns : goal.returns
 unfolding body_text
-returns c = puts c.put_reg-gets.ensures (puts c.put-address.ensures (puts c.put_reg-end.ensures c.put.ensures))
+returns c = adds c.put_reg.ensures (adds c.put.ensures (adds c.put_reg-2.ensures c.put-2.ensures))

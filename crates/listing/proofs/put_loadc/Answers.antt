@@ -1,8 +1,10 @@
 -- `listing::put_loadc` meets its contract: four texts, each behind the one before.
-use Rattle.text.proofs.Puts.{puts}
+use mathlib.Core.Path.{ap}
+use Rattle.text.specs.Text.{decimal}
+use Rattle.text.proofs.Pages.{adds_as, adds}
 use Rattle.listing.specs.Listing.{body_text}
 use Rattle.listing.proofs.put_loadc.Goals as goal
 
 pub returns : goal.returns
 unfolding body_text
-returns c = puts c.put_reg-gets.ensures (puts c.put-constant.ensures (puts c.put_decimal-end.ensures c.put.ensures))
+returns c = adds c.put_reg.ensures (adds c.put.ensures (adds (adds_as c.put_decimal.ensures (ap decimal c.from.ensures)) c.put-2.ensures))
