@@ -10,8 +10,9 @@ use lib.Dec.{eqb, ltb}
 use lib.ListN.{length, get_or, set, take, drop, get_elem?, length-append}
 use lib.Seq.{split_at, take-append_seam, get_or-append_seam}
 use borrow.Author.Tests.{ltb-true, lt-ltb}
-use Rattle.records.specs.Refusal.{no_template, other_kind, needs_tag, not_held, still_held, earlier_memory, is_undefined, outside, other_way}
-use Rattle.records.specs.Try.{got}
+use Rattle.records.specs.declared.Refusal.TheVariants.{NoTemplate, OtherKind, NeedsTag, NotHeld, StillHeld, EarlierMemory, IsUndefined, Outside, OtherWay}
+use Rattle.records.specs.declared.Refusal.{Refusal}
+use Rattle.std.specs.Prelude.{Ok}
 use Rattle.value.specs.declared.Value.{Value}
 use Rattle.value.specs.declared.Value.TheVariants.{Undefined, Word}
 use Rattle.value.specs.Operation.{result_of}
@@ -39,7 +40,7 @@ OnStep P (refused n) = Unit
 
 -- what is to be shown of P for every rule at a template of address a, with `pre` before it and `post` behind it
 pub record Cases (σ : Mach) (m : List Value) (pre : List Itb) (a : InstrAddr) (post : List Itb) (P : Work → Step → Type 0) : Type 0 where
-  pub refuses : (w : Work) (n : ℕ) → n ≢ 0 → P w (refused n)
+  pub refuses : (w : Work) (n : Refusal) → P w (refused n)
   pub operates : (t : Tag) (n : ℕ) (u v : Value) → P (Op t n (Known u) (Known v)) (becomes σ m pre a post (Done t (result_of n u v)))
   pub forwards : (t : Tag) (v : Value) → any_holds t post ≡ true
       → P (Done t v) (accepted (holding σ (pre ++ ITB a (Done t v) ∷ fill_all t v post)) m)
@@ -52,22 +53,22 @@ pub record Cases (σ : Mach) (m : List Value) (pre : List Itb) (a : InstrAddr) (
   pub stores : (x : ℕ) (v : Value) → x < length m → MayStore x (length m) pre
       → P (Store (Known (Word x)) (Known v)) (accepted (holding σ (pre ++ post)) (set m x v))
   -- whatever the target stands for
-  pub jumps : (u : Value) (y : Operand) (ia : InstrAddr) → ((e : Env) → branch a u (resolve e y) ≡ got ia)
+  pub jumps : (u : Value) (y : Operand) (ia : InstrAddr) → ((e : Env) → branch a u (resolve e y) ≡ Ok ia)
       → P (Jz (Known u) y) (go_to σ m pre a post ia)
 
 module _ (σ : Mach) (m : List Value) (pre : List Itb) (a : InstrAddr) (post : List Itb) (P : Work → Step → Type 0)
     (k : Cases σ m pre a post P) where
   -- ---- the conditions
 
-  other_kind_lem : (w : Work) → P w (refused other_kind)
-  other_kind_lem w = k.refuses w other_kind (λ e. omega arith)
+  other_kind_lem : (w : Work) → P w (refused OtherKind)
+  other_kind_lem w = k.refuses w OtherKind
 
-  undefined : (w : Work) → P w (refused is_undefined)
-  undefined w = k.refuses w is_undefined (λ e. omega arith)
+  undefined : (w : Work) → P w (refused IsUndefined)
+  undefined w = k.refuses w IsUndefined
 
   when_known : (w : Operand → Work) (f : Value → Step) → ((v : Value) → P (w (Known v)) (f v)) → (x : Operand) → P (w x) (known f x)
   when_known w f h (Known v) = h v
-  when_known w f h (Waits t) = k.refuses (w (Waits t)) needs_tag (λ e. omega arith)
+  when_known w f h (Waits t) = k.refuses (w (Waits t)) NeedsTag
 
   value-cases : (f : Tag → Value → Step) → ((t : Tag) (v : Value) → P (Done t v) (f t v)) → (w : Work) → P w (on_value f w)
   value-cases f h (Done t v) = h t v
@@ -112,7 +113,7 @@ module _ (σ : Mach) (m : List Value) (pre : List Itb) (a : InstrAddr) (post : L
   load_from_lem t (Word x) h = at (get_elem? m x) refl
     where
       at : (o : Option Value) → get_elem? m x ≡ o → P (Load t (Known (Word x))) (tried (λ v. becomes σ m pre a post (Done t v)) (inside o))
-      at none e = k.refuses (Load t (Known (Word x))) outside (λ e. omega arith)
+      at none e = k.refuses (Load t (Known (Word x))) Outside
       at (some v) e = k.loads t x v e (may_load x (length m) pre h)
 
   store_to : (u v : Value) → any_memory pre ≡ false
@@ -121,26 +122,26 @@ module _ (σ : Mach) (m : List Value) (pre : List Itb) (a : InstrAddr) (post : L
   store_to (Word x) v h =
       by_test (λ r. P (Store (Known (Word x)) (Known v)) (tried (λ m'. accepted (holding σ (pre ++ post)) m') r)) (ltb x (length m))
       (λ l. k.stores x v (ltb-true x (length m) l) (may_store x (length m) pre h))
-      (λ _. k.refuses (Store (Known (Word x)) (Known v)) outside (λ e. omega arith))
+      (λ _. k.refuses (Store (Known (Word x)) (Known v)) Outside)
 
   -- ---- a Jz
 
-  other_way_lem : (w : Work) → P w (refused other_way)
-  other_way_lem w = k.refuses w other_way (λ e. omega arith)
+  other_way_lem : (w : Work) → P w (refused OtherWay)
+  other_way_lem w = k.refuses w OtherWay
 
   jump_to : (w : ℕ) → eqb w 0 ≡ true → (v : Value) → P (Jz (Known (Word w)) (Known v)) (tried (go_to σ m pre a post) (target v))
   jump_to w z Undefined = undefined (Jz (Known (Word w)) (Known Undefined))
   jump_to w z (Word n) = k.jumps (Word w) (Known (Word n)) (instr_addr n) (λ e. rw z refl)
 
   jump_on : (u : Value) (y : Operand)
-      → P (Jz (Known u) y) (condition (known (λ v. tried (go_to σ m pre a post) (target v)) y) (refused other_way) u)
+      → P (Jz (Known u) y) (condition (known (λ v. tried (go_to σ m pre a post) (target v)) y) (refused OtherWay) u)
   jump_on Undefined y = undefined (Jz (Known Undefined) y)
   jump_on (Word w) y =
       by_test (P (Jz (Known (Word w)) y)) (eqb w 0)
       (λ z. when_known (λ x. Jz (Known (Word w)) x) (λ v. tried (go_to σ m pre a post) (target v)) (jump_to w z) y)
       (λ _. other_way_lem (Jz (Known (Word w)) y))
 
-  go_on : (u : Value) (y : Operand) → P (Jz (Known u) y) (condition (refused other_way) (go_to σ m pre a post (next a)) u)
+  go_on : (u : Value) (y : Operand) → P (Jz (Known u) y) (condition (refused OtherWay) (go_to σ m pre a post (next a)) u)
   go_on Undefined y = undefined (Jz (Known Undefined) y)
   go_on (Word w) y =
       by_test (P (Jz (Known (Word w)) y)) (eqb w 0) (λ _. other_way_lem (Jz (Known (Word w)) y))
@@ -152,23 +153,23 @@ module _ (σ : Mach) (m : List Value) (pre : List Itb) (a : InstrAddr) (post : L
   rule-cases Rule.Operate =
       op_cases _ (λ t n x y. when_known (λ z. Op t n z y) _ (λ u. when_known (λ z. Op t n (Known u) z) _ (λ v. k.operates t n u v) y) x)
   rule-cases Rule.Forward =
-      value-cases _ (λ t v. by_test (P (Done t v)) (any_holds t post) (k.forwards t v) (λ _. k.refuses (Done t v) not_held (λ e. omega arith)))
+      value-cases _ (λ t v. by_test (P (Done t v)) (any_holds t post) (k.forwards t v) (λ _. k.refuses (Done t v) NotHeld))
   rule-cases Rule.Commit =
-      value-cases _ (λ t v. by_test (P (Done t v)) (any_reg t σ.registers) (k.commits t v) (λ _. k.refuses (Done t v) not_held (λ e. omega arith)))
+      value-cases _ (λ t v. by_test (P (Done t v)) (any_reg t σ.registers) (k.commits t v) (λ _. k.refuses (Done t v) NotHeld))
   rule-cases Rule.Retire =
       value-cases _
       (λ t v.
-      by_test (P (Done t v)) (any_reg t σ.registers || any_holds t post) (λ _. k.refuses (Done t v) still_held (λ e. omega arith))
+      by_test (P (Done t v)) (any_reg t σ.registers || any_holds t post) (λ _. k.refuses (Done t v) StillHeld)
       (λ h. let n = neither (any_reg t σ.registers) (any_holds t post) h in k.retires t v n.0 n.1))
   rule-cases Rule.Load =
       load-cases _
       (λ t x.
-      by_test (P (Load t x)) (any_memory pre) (λ _. k.refuses (Load t x) earlier_memory (λ e. omega arith))
+      by_test (P (Load t x)) (any_memory pre) (λ _. k.refuses (Load t x) EarlierMemory)
       (λ h. when_known (Load t) _ (λ u. load_from_lem t u h) x))
   rule-cases Rule.Store =
       store-cases _
       (λ x y.
-      by_test (P (Store x y)) (any_memory pre) (λ _. k.refuses (Store x y) earlier_memory (λ e. omega arith))
+      by_test (P (Store x y)) (any_memory pre) (λ _. k.refuses (Store x y) EarlierMemory)
       (λ h. when_known (λ z. Store z y) _ (λ u. when_known (Store (Known u)) _ (λ v. store_to u v h) y) x))
   rule-cases Rule.Jump = jz_cases _ (λ x y. when_known (λ z. Jz z y) _ (λ u. jump_on u y) x)
   rule-cases Rule.NoJump = jz_cases _ (λ x y. when_known (λ z. Jz z y) _ (λ u. go_on u y) x)
@@ -188,7 +189,7 @@ apply_at r σ m pre x xs e =
     rw (e, lt-ltb (length pre) (length (pre ++ x ∷ xs)) there, take-append_seam pre (x ∷ xs), get_or-append_seam pre x xs nothing, behind pre x xs) refl
 
 -- P of every rule at every place: from its cases at every template of the list
-pub apply-cases : (P : List Itb → Step → Type 0) (r : Rule) (place : ℕ) (σ : Mach) (m : List Value) → P σ.held (refused no_template)
+pub apply-cases : (P : List Itb → Step → Type 0) (r : Rule) (place : ℕ) (σ : Mach) (m : List Value) → P σ.held (refused NoTemplate)
     → ((pre : List Itb) (a : InstrAddr) (post : List Itb) → Cases σ m pre a post (λ w s. P (pre ++ ITB a w ∷ post) s))
     → P σ.held (apply r place σ m)
 unfolding apply

@@ -102,7 +102,7 @@ module _ (k : ℕ) (σ : Mach) (m : List Value) (pre : List Itb) (a : InstrAddr)
   keeps_cases : Cases σ m pre a post (λ w r. Was w → StaysSound k r)
   keeps_cases =
       record {
-        refuses = λ w n e s. tt;
+        refuses = λ w n s. tt;
         operates = λ t n u v s. becomes_sound (Op t n (Known u) (Known v)) t (result_of n u v) refl refl (λ h. h.0) s;
         forwards = λ t v h s.
             let u = was-templates (Done t v) s in

@@ -5,7 +5,6 @@ pub mod Cases
 pub mod Filling
 pub mod Removing
 pub mod Keeping
-pub mod Numbered
 pub mod Staying
 pub mod Due
 pub mod Oldest

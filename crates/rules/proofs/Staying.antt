@@ -2,6 +2,7 @@
 use Prim.Native.Nat.{ℕ, zero, suc, ◌+◌}
 use mathlib.Core.List.{List, [], ◌∷◌}
 use lib.ListN.{length}
+use Rattle.std.specs.Prelude.{Err}
 use Rattle.value.specs.declared.Value.{Value}
 use Rattle.isa.specs.declared.Instr.{Instr}
 use Rattle.templates.specs.Machine.{Mach}
@@ -57,6 +58,6 @@ run_keeps_sound prog f (c ∷ cs) n k σ m s = next (obey prog c σ m) (obey_kee
     next : (r : Step) → StaysSound (length prog) r
         → ((τ : Mach) (l : List Value) → Sound (length prog) τ → Sound (length prog) (run_from prog cs (n + 1) (counted c k) τ l).machine)
         → Sound (length prog)
-        (proceed (λ τ l. run_from prog cs (n + 1) (counted c k) τ l) (λ why. record { accepted = n; issued = k; refusal = why; machine = σ; memory = m }) r).machine
+        (proceed (λ τ l. run_from prog cs (n + 1) (counted c k) τ l) (λ why. record { accepted = n; issued = k; verdict = Err why; machine = σ; memory = m }) r).machine
     next (accepted τ l) h rest = rest τ l h
     next (refused why) h rest = s

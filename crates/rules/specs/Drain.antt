@@ -1,6 +1,7 @@
 -- The drain: the lowest place with an allowed rule other than issue, there the lowest rule number, until none.
-use Rattle.std.specs.Prelude.{ℕ, zero, suc, ◌+◌, ◌*◌, cond, List, [], ◌∷◌, eqb, length}
-use Rattle.records.specs.Refusal.{no_template}
+use Rattle.std.specs.Prelude.{ℕ, zero, suc, ◌+◌, ◌*◌, cond, List, [], ◌∷◌, eqb, length, Result, Ok, Err}
+use Rattle.records.specs.declared.Refusal.{Refusal}
+use Rattle.records.specs.declared.Refusal.TheVariants.{NoTemplate}
 use Rattle.value.specs.declared.Value.{Value}
 use Rattle.value.specs.declared.Value.TheVariants.{Undefined, Word}
 use Rattle.isa.specs.declared.InstrAddr.{InstrAddr}
@@ -28,12 +29,12 @@ abbrev pub rules : List Rule
 rules = Rule.Operate ∷ Rule.Forward ∷ Rule.Commit ∷ Rule.Retire ∷ Rule.Load ∷ Rule.Store ∷ Rule.Jump ∷ Rule.NoJump ∷ []
 
 abbrev pub first_of : List Rule → ℕ → Mach → List Value → Step
-first_of [] place σ m = refused no_template
+first_of [] place σ m = refused NoTemplate
 first_of (r ∷ rs) place σ m = first (apply r place σ m) (first_of rs place σ m)
 
 -- at one of n places, from a place on
 abbrev pub seek : ℕ → ℕ → Mach → List Value → Step
-seek zero place σ m = refused no_template
+seek zero place σ m = refused NoTemplate
 seek (suc n) place σ m = first (first_of rules place σ m) (seek n (suc place) σ m)
 
 unfoldable pub oldest : Mach → List Value → Step
@@ -71,21 +72,21 @@ asks (Jz x y) = Rule.Jump
 asks (Load t x) = Rule.Load
 asks (Store x y) = Rule.Store
 
-abbrev pub refusal : Step → ℕ
-refusal (accepted σ m) = 0
-refusal (refused n) = n
+abbrev pub refusal : Step → Result Unit Refusal
+refusal (accepted σ m) = Ok tt
+refusal (refused n) = Err n
 
--- the rule's refusal at a place, 0 if there is none
-abbrev pub refusal_at : Rule → ℕ → Mach → List Value → ℕ
+-- the rule's refusal at a place, if there is one
+abbrev pub refusal_at : Rule → ℕ → Mach → List Value → Result Unit Refusal
 refusal_at r place σ m = refusal (apply r place σ m)
 
 -- why the template x at a place doesn't run
-abbrev pub blocked_by : ℕ → Mach → List Value → Itb → ℕ
+abbrev pub blocked_by : ℕ → Mach → List Value → Itb → Result Unit Refusal
 blocked_by place σ m x = refusal_at (asks x.work) place σ m
 
--- the oldest of the templates that are left: its refusal, 0 if there is none, and its address
-abbrev pub blocking : Mach → List Value → List Itb → ℕ
-blocking σ m [] = 0
+-- the oldest of the templates that are left: its refusal, if there is one, and its address
+abbrev pub blocking : Mach → List Value → List Itb → Result Unit Refusal
+blocking σ m [] = Ok tt
 blocking σ m (x ∷ xs) = blocked_by 0 σ m x
 
 abbrev pub blocked_at : List Itb → InstrAddr

@@ -1,8 +1,8 @@
 -- The nine rules of the memo's section 5, on the machine without blanks.
-use Rattle.std.specs.Prelude.{ℕ, suc, Bool, cond, ◌||◌, List, [], ◌∷◌, ◌++◌, eqb, leb, ltb, length, get_or, take, drop}
+use Rattle.std.specs.Prelude.{ℕ, suc, Bool, cond, ◌||◌, List, [], ◌∷◌, ◌++◌, eqb, leb, ltb, length, get_or, take, drop, Result, Ok, Err}
 use Rattle.std.proofs.Math.ListN.{get_elem?}
-use Rattle.records.specs.Refusal.{stalled, full, bad_tag, no_template, other_kind, needs_tag, not_held, still_held, earlier_memory, is_undefined, other_way}
-use Rattle.records.specs.Try.{Try, got, fails}
+use Rattle.records.specs.declared.Refusal.TheVariants.{Stalled, Full, BadTag, NoTemplate, OtherKind, NeedsTag, NotHeld, StillHeld, EarlierMemory, IsUndefined, OtherWay}
+use Rattle.records.specs.declared.Refusal.{Refusal}
 use Rattle.value.specs.declared.Value.{Value}
 use Rattle.value.specs.declared.Value.TheVariants.{Undefined, Word}
 use Rattle.value.specs.Operation.{result_of}
@@ -28,7 +28,7 @@ use Rattle.rules.specs.declared.Rule.TheVariants as Rule
 -- a rule is accepted, with the machine and the memory that it leaves, or refused
 pub data Step : Type 0 where
   accepted : Mach → List Value → Step
-  refused : ℕ → Step
+  refused : Refusal → Step
 
 -- the machine with other templates
 abbrev pub holding : Mach → List Itb → Mach
@@ -36,58 +36,58 @@ holding σ xs = with σ σ.counter σ.registers xs
 
 -- ---- conditions, each with its number for no
 
-abbrev pub tried : {A : Type 0} → (A → Step) → Try A → Step
-tried f (got x) = f x
-tried f (fails n) = refused n
+abbrev pub tried : {A : Type 0} → (A → Step) → Result A Refusal → Step
+tried f (Ok x) = f x
+tried f (Err n) = refused n
 
 -- a needed operand
 abbrev pub known : (Value → Step) → Operand → Step
 known f (Known v) = f v
-known f (Waits t) = refused needs_tag
+known f (Waits t) = refused NeedsTag
 
 -- a Jz condition: zero, or not
 abbrev pub condition : Step → Step → Value → Step
-condition zero other Undefined = refused is_undefined
+condition zero other Undefined = refused IsUndefined
 condition zero other (Word w) = cond (eqb w 0) zero other
 
 -- a template of the rule's kind
 abbrev pub on_value : (Tag → Value → Step) → Work → Step
 on_value f (Done t v) = f t v
-on_value f (Op t n x y) = refused other_kind
-on_value f (Jz x y) = refused other_kind
-on_value f (Load t x) = refused other_kind
-on_value f (Store x y) = refused other_kind
+on_value f (Op t n x y) = refused OtherKind
+on_value f (Jz x y) = refused OtherKind
+on_value f (Load t x) = refused OtherKind
+on_value f (Store x y) = refused OtherKind
 
 abbrev pub on_op : (Tag → ℕ → Operand → Operand → Step) → Work → Step
-on_op f (Done t v) = refused other_kind
+on_op f (Done t v) = refused OtherKind
 on_op f (Op t n x y) = f t n x y
-on_op f (Jz x y) = refused other_kind
-on_op f (Load t x) = refused other_kind
-on_op f (Store x y) = refused other_kind
+on_op f (Jz x y) = refused OtherKind
+on_op f (Load t x) = refused OtherKind
+on_op f (Store x y) = refused OtherKind
 
 abbrev pub on_jz : (Operand → Operand → Step) → Work → Step
-on_jz f (Done t v) = refused other_kind
-on_jz f (Op t n x y) = refused other_kind
+on_jz f (Done t v) = refused OtherKind
+on_jz f (Op t n x y) = refused OtherKind
 on_jz f (Jz x y) = f x y
-on_jz f (Load t x) = refused other_kind
-on_jz f (Store x y) = refused other_kind
+on_jz f (Load t x) = refused OtherKind
+on_jz f (Store x y) = refused OtherKind
 
 abbrev pub on_load : (Tag → Operand → Step) → Work → Step
-on_load f (Done t v) = refused other_kind
-on_load f (Op t n x y) = refused other_kind
-on_load f (Jz x y) = refused other_kind
+on_load f (Done t v) = refused OtherKind
+on_load f (Op t n x y) = refused OtherKind
+on_load f (Jz x y) = refused OtherKind
 on_load f (Load t x) = f t x
-on_load f (Store x y) = refused other_kind
+on_load f (Store x y) = refused OtherKind
 
 abbrev pub on_store : (Operand → Operand → Step) → Work → Step
-on_store f (Done t v) = refused other_kind
-on_store f (Op t n x y) = refused other_kind
-on_store f (Jz x y) = refused other_kind
-on_store f (Load t x) = refused other_kind
+on_store f (Done t v) = refused OtherKind
+on_store f (Op t n x y) = refused OtherKind
+on_store f (Jz x y) = refused OtherKind
+on_store f (Load t x) = refused OtherKind
 on_store f (Store x y) = f x y
 
 -- the Store is removed, and memory is the one written
-abbrev pub storing : Mach → List Itb → List Itb → Try (List Value) → Step
+abbrev pub storing : Mach → List Itb → List Itb → Result (List Value) Refusal → Step
 storing σ pre post w = tried (λ m'. accepted (holding σ (pre ++ post)) m') w
 
 -- ---- the rules but issue: at the template of address a, with `pre` before it and `post` behind it
@@ -107,7 +107,7 @@ module _ (σ : Mach) (m : List Value) (pre : List Itb) (a : InstrAddr) (post : L
       (λ t v.
       cond (any_holds t post)
       (accepted (holding σ (pre ++ ITB a (Done t v) ∷ fill_all t v post)) m)
-      (refused not_held))
+      (refused NotHeld))
 
   -- in the register that holds the tag
   abbrev pub commit : Work → Step
@@ -116,14 +116,14 @@ module _ (σ : Mach) (m : List Value) (pre : List Itb) (a : InstrAddr) (post : L
       (λ t v.
       cond (any_reg t σ.registers)
       (accepted (with σ σ.counter (fill_regs t v σ.registers) (pre ++ ITB a (Done t v) ∷ post)) m)
-      (refused not_held))
+      (refused NotHeld))
 
   abbrev pub retire : Work → Step
   retire =
       on_value
       (λ t v.
       cond (any_reg t σ.registers || any_holds t post)
-      (refused still_held)
+      (refused StillHeld)
       (accepted (holding σ (pre ++ post)) m))
 
   abbrev pub load : Work → Step
@@ -131,7 +131,7 @@ module _ (σ : Mach) (m : List Value) (pre : List Itb) (a : InstrAddr) (post : L
       on_load
       (λ t x.
       cond (any_memory pre)
-      (refused earlier_memory)
+      (refused EarlierMemory)
       (known (λ u. tried (λ v. becomes (Done t v)) (read_at m u)) x))
 
   abbrev pub store : Work → Step
@@ -139,7 +139,7 @@ module _ (σ : Mach) (m : List Value) (pre : List Itb) (a : InstrAddr) (post : L
       on_store
       (λ x y.
       cond (any_memory pre)
-      (refused earlier_memory)
+      (refused EarlierMemory)
       (known (λ u. known (λ v. storing σ pre post (write_at m u v)) y) x))
 
   -- the Jz is removed, and the counter is set
@@ -147,11 +147,11 @@ module _ (σ : Mach) (m : List Value) (pre : List Itb) (a : InstrAddr) (post : L
   go_to ia = accepted (with σ (At ia) σ.registers (pre ++ post)) m
 
   abbrev pub jump : Work → Step
-  jump = on_jz (λ x y. known (λ u. condition (known (λ v. tried go_to (target v)) y) (refused other_way) u) x)
+  jump = on_jz (λ x y. known (λ u. condition (known (λ v. tried go_to (target v)) y) (refused OtherWay) u) x)
 
   -- it doesn't look at the target
   abbrev pub no_jump : Work → Step
-  no_jump = on_jz (λ x y. known (λ u. condition (refused other_way) (go_to (next a)) u) x)
+  no_jump = on_jz (λ x y. known (λ u. condition (refused OtherWay) (go_to (next a)) u) x)
 
 abbrev pub rule : Rule → Mach → List Value → List Itb → InstrAddr → List Itb → Work → Step
 rule Rule.Operate = operate
@@ -169,7 +169,7 @@ apply r k σ m =
     let x = get_or σ.held k nothing in
     cond (ltb k (length σ.held))
     (rule r σ m (take k σ.held) x.address (drop (suc k) σ.held) x.work)
-    (refused no_template)
+    (refused NoTemplate)
 
 -- ---- issue: of the instruction at the counter, with a tag that the schedule names
 
@@ -229,11 +229,11 @@ module _ (t : Tag) (σ : Mach) (m : List Value) where
   abbrev pub issue_at : InstrAddr → Instr → Step
   issue_at ia i =
       cond (leb room (length σ.held))
-      (refused full)
-      (cond (tag_allowed σ t i) (accepted (issued ia i) m) (refused bad_tag))
+      (refused Full)
+      (cond (tag_allowed σ t i) (accepted (issued ia i) m) (refused BadTag))
 
   abbrev pub issue_from : List Instr → Counter → Step
-  issue_from prog Stall = refused stalled
+  issue_from prog Stall = refused Stalled
   issue_from prog (At ia) = tried (issue_at ia) (present (get_elem? prog ia.0))
 
 unfoldable pub issue : List Instr → Tag → Mach → List Value → Step

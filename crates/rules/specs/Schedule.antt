@@ -1,6 +1,6 @@
 -- Schedule records, and what one of them does.
 use Rattle.std.specs.Prelude.{ℕ, cond, List, eqb}
-use Rattle.records.specs.Refusal.{bad_schedule}
+use Rattle.records.specs.declared.Refusal.TheVariants.{BadSchedule}
 use Rattle.value.specs.declared.Value.{Value}
 use Rattle.isa.specs.declared.Instr.{Instr}
 use Rattle.templates.specs.Machine.{Mach}
@@ -34,6 +34,6 @@ command_of rule place tag last =
     Malformed
 
 unfoldable pub obey : List Instr → Command → Mach → List Value → Step
-obey prog Malformed σ m = refused bad_schedule
+obey prog Malformed σ m = refused BadSchedule
 obey prog (Issue t) σ m = issue prog t σ m
 obey prog (Apply r place) σ m = apply r place σ m

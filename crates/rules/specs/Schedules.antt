@@ -1,5 +1,6 @@
 -- A schedule's records, each allowed where it stands, and the part of it that a run accepts.
-use Rattle.std.specs.Prelude.{◌≡◌, ◌≢◌, ℕ, ◌≤◌, ◌<◌, List, [], ◌∷◌, length, take}
+use Rattle.std.specs.Prelude.{◌≡◌, ℕ, ◌≤◌, ◌<◌, List, [], ◌∷◌, length, take, Ok, Err, IsErr}
+use Rattle.records.specs.declared.Refusal.{Refusal}
 use Rattle.value.specs.declared.Value.{Value}
 use Rattle.isa.specs.declared.Instr.{Instr}
 use Rattle.templates.specs.Machine.{Mach}
@@ -23,7 +24,8 @@ pub record RanTo (prog : List Instr) (cs : List Command) (σ : Mach) (m : List V
   pub allowed : obeyed prog (take e.accepted cs) σ m ≡ accepted e.machine e.memory
   pub issued : e.issued ≡ issues (take e.accepted cs)
   -- any longer part is refused, with the run's refusal
-  pub longest : (n : ℕ) → e.accepted < n → n ≤ length cs → obeyed prog (take n cs) σ m ≡ refused e.refusal
-  -- which is 0 if there is none
-  pub to_the_end : e.accepted ≡ length cs → e.refusal ≡ 0
-  pub cut_short : e.accepted < length cs → e.refusal ≢ 0
+  pub longest : (n : ℕ) → e.accepted < n → n ≤ length cs
+      → (why : Refusal) × (obeyed prog (take n cs) σ m ≡ refused why) × (e.verdict ≡ Err why)
+  -- if there is one
+  pub to_the_end : e.accepted ≡ length cs → e.verdict ≡ Ok tt
+  pub cut_short : e.accepted < length cs → IsErr e.verdict

@@ -14,7 +14,7 @@ pub enum Rule {
     NoJump,
 }
 
-// A schedule record, read: malformed, an issue with a tag, or a rule at a place.
+// A schedule record, read: malformed, an issue with a tag, or a rule at a place. No Result: a schedule may hold a malformed record, which a run obeys by a refusal.
 #[derive(Clone, Copy)]
 pub enum Command {
     Malformed,
