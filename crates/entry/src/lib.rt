@@ -1,37 +1,18 @@
 // The checks of every entry of the renaming machine: refusals 1 to 4.
 #![tactic(auto)]
 
-ghost use Rattle.std.specs.Prelude.{◌≡◌, length};
-ghost use Rattle.templates.specs.Layout.{places};
 ghost use Rattle.entry.specs.Entry.{Enters};
 
-use records::{Verdict, refusal};
-use templates::{PLACES, State, Template};
-
-// The table has its places: nothing is done.
-fn sized(ts: [Template; PLACES])
-    ensures { length ts ≡ places }
-{}
+use records::{Fault, Refusal};
+use templates::State;
 
 // In order, each with the record number of 2 and 3.
-pub fn enter(state: State, program: &[u8], memory: &[u8]) -> Verdict
+pub fn enter(state: State, program: &[u8], memory: &[u8]) -> Result<(), Fault>
     ensures { Enters program.now memory.now state result }
 {
-    let ts = state.templates;
-    sized(ts);
-    let verdict = kernel::check(program, memory);
-    if verdict.refusal != 0 {
-        return verdict;
+    kernel::check(program, memory)?;
+    if !sound::is_sound(state, (program.len() / 8) as u32) {
+        return Err(Fault::from(Refusal::Unsound));
     }
-    let instructions = (program.len() / 8) as u32;
-    if !sound::is_sound(state, instructions) {
-        return Verdict {
-            refusal: refusal::UNSOUND,
-            number: 0,
-        };
-    }
-    Verdict {
-        refusal: 0,
-        number: 0,
-    }
+    Ok(())
 }

@@ -2,210 +2,186 @@
 #![tactic(auto)]
 
 ghost use Rattle.std.specs.Prelude.{◌≡◌};
-ghost use Rattle.cells.specs.Cells.{cells, answer};
-ghost use Rattle.kernel.specs.Kernel.{reached, number};
+ghost use Rattle.cells.specs.Cells.{cells};
 ghost use Rattle.templates.specs.Layout.{mach_of};
 ghost use Rattle.rules.specs.Drain.{asks, refusal_at};
-ghost use Rattle.judge.specs.Reading.{operating, loading, storing, jumping, falling, forwarding, committing, retiring, targeted, load_refusal, jump_refusal, refusal_on};
+ghost use Rattle.records.specs.Refusal.{verdict_of};
+ghost use Rattle.judge.specs.Reading.{is_of_kind, is_first, known, conditioned, operating, loading, storing, stored_at, jumping, falling, forwarding, committing, retiring, refusal_on};
 
-use cells::Loaded;
-use kernel::Reached;
-use records::refusal;
+use isa::InstrAddr;
+use records::Refusal;
 use rules::Rule;
-use templates::{Operand, PLACES, State, Work};
+use templates::{Operand, State, Work};
 use value::Value;
+
+// ---- what several rules ask
+
+fn is_of_kind(ts: &[[u64; 3]], p: usize, kind: u8) -> Result<(), Refusal>
+    ensures { result ≡ is_of_kind kind p ts.now }
+{
+    if rows::kind(ts, p) != kind {
+        return Err(Refusal::OtherKind);
+    }
+    Ok(())
+}
+
+// No Load and no Store is earlier.
+fn is_first(ts: &[[u64; 3]], p: usize) -> Result<(), Refusal>
+    ensures { result ≡ is_first p ts.now }
+{
+    if rows::memory_before(ts, p) {
+        return Err(Refusal::EarlierMemory);
+    }
+    Ok(())
+}
+
+fn known(o: Operand) -> Result<Value, Refusal>
+    ensures { result ≡ known o }
+{
+    match o {
+        Operand::Known(v) => Ok(v),
+        Operand::Waits(_) => Err(Refusal::NeedsTag),
+    }
+}
+
+// A Jz's condition.
+fn condition(ts: &[[u64; 3]], p: usize) -> Result<u32, Refusal>
+    ensures { result ≡ conditioned p ts.now }
+{
+    is_of_kind(ts, p, rows::JZ)?;
+    match known(rows::first(ts, p))? {
+        Value::Undefined => Err(Refusal::IsUndefined),
+        Value::Word(w) => Ok(w),
+    }
+}
 
 // ---- a value template
 
-pub fn forward(ts: &[[u64; 3]], n: usize, p: usize) -> u8
-    ensures { result ≡ number (forwarding n p ts.now) }
+pub fn forward(ts: &[[u64; 3]], n: usize, p: usize) -> Result<(), Refusal>
+    ensures { result ≡ forwarding n p ts.now }
 {
-    if rows::kind(ts, p) != rows::VALUE {
-        return refusal::OTHER_KIND;
-    }
+    is_of_kind(ts, p, rows::VALUE)?;
     if rows::held_behind(ts, n, p) {
-        return 0;
+        return Ok(());
     }
-    refusal::NOT_HELD
+    Err(Refusal::NotHeld)
 }
 
-pub fn commit(ts: &[[u64; 3]], rf: &[u64], p: usize) -> u8
-    ensures { result ≡ number (committing p ts.now rf.now) }
+pub fn commit(ts: &[[u64; 3]], rf: &[u64], p: usize) -> Result<(), Refusal>
+    ensures { result ≡ committing p ts.now rf.now }
 {
-    if rows::kind(ts, p) != rows::VALUE {
-        return refusal::OTHER_KIND;
-    }
+    is_of_kind(ts, p, rows::VALUE)?;
     if rows::held_by_register(rf, rows::tag(ts, p)) {
-        return 0;
+        return Ok(());
     }
-    refusal::NOT_HELD
+    Err(Refusal::NotHeld)
 }
 
-pub fn retire(ts: &[[u64; 3]], rf: &[u64], n: usize, p: usize) -> u8
-    ensures { result ≡ number (retiring n p ts.now rf.now) }
+pub fn retire(ts: &[[u64; 3]], rf: &[u64], n: usize, p: usize) -> Result<(), Refusal>
+    ensures { result ≡ retiring n p ts.now rf.now }
 {
-    if rows::kind(ts, p) != rows::VALUE {
-        return refusal::OTHER_KIND;
+    is_of_kind(ts, p, rows::VALUE)?;
+    if rows::held_by_register(rf, rows::tag(ts, p)) || rows::held_behind(ts, n, p) {
+        return Err(Refusal::StillHeld);
     }
-    if rows::held_by_register(rf, rows::tag(ts, p)) {
-        return refusal::STILL_HELD;
-    }
-    if rows::held_behind(ts, n, p) {
-        return refusal::STILL_HELD;
-    }
-    0
+    Ok(())
 }
 
 // ---- one that becomes a value template: the value
 
-pub fn operate(ts: &[[u64; 3]], p: usize) -> Loaded
-    ensures { result ≡ answer (operating p ts.now) }
+pub fn operate(ts: &[[u64; 3]], p: usize) -> Result<Value, Refusal>
+    ensures { result ≡ operating p ts.now }
 {
-    if rows::kind(ts, p) != rows::OP {
-        return Loaded::Refused(refusal::OTHER_KIND);
-    }
-    match rows::first(ts, p) {
-        Operand::Known(u) => match rows::second(ts, p) {
-            Operand::Known(v) => Loaded::Is(value::operate(rows::operation(ts, p), u, v)),
-            Operand::Waits(_) => Loaded::Refused(refusal::NEEDS_TAG),
-        },
-        Operand::Waits(_) => Loaded::Refused(refusal::NEEDS_TAG),
-    }
+    is_of_kind(ts, p, rows::OP)?;
+    let u = known(rows::first(ts, p))?;
+    let v = known(rows::second(ts, p))?;
+    Ok(value::operate(rows::operation(ts, p), u, v))
 }
 
-pub fn load(ts: &[[u64; 3]], p: usize, memory: &[u8]) -> Loaded
-    ensures { result ≡ answer (loading (cells memory.now) p ts.now) }
+pub fn load(ts: &[[u64; 3]], p: usize, memory: &[u8]) -> Result<Value, Refusal>
+    ensures { result ≡ loading (cells memory.now) p ts.now }
 {
-    if rows::kind(ts, p) != rows::LOAD {
-        return Loaded::Refused(refusal::OTHER_KIND);
-    }
-    if rows::memory_before(ts, p) {
-        return Loaded::Refused(refusal::EARLIER_MEMORY);
-    }
-    match rows::first(ts, p) {
-        Operand::Known(u) => kernel::read_at(memory, u),
-        Operand::Waits(_) => Loaded::Refused(refusal::NEEDS_TAG),
-    }
+    is_of_kind(ts, p, rows::LOAD)?;
+    is_first(ts, p)?;
+    kernel::read_at(memory, known(rows::first(ts, p))?)
 }
 
-// ---- one that is removed: where the counter goes
+// ---- one that is removed: what is stored where, or where the counter goes
 
-fn target(o: Operand) -> Reached
-    ensures { result ≡ reached (targeted o) }
+// Address and data.
+pub fn store(ts: &[[u64; 3]], p: usize) -> Result<(Value, Value), Refusal>
+    ensures { result ≡ stored_at p ts.now }
 {
-    match o {
-        Operand::Known(v) => kernel::target(v),
-        Operand::Waits(_) => Reached::Refused(refusal::NEEDS_TAG),
-    }
+    is_of_kind(ts, p, rows::STORE)?;
+    is_first(ts, p)?;
+    let address = known(rows::first(ts, p))?;
+    let data = known(rows::second(ts, p))?;
+    Ok((address, data))
 }
 
-pub fn jump(ts: &[[u64; 3]], p: usize) -> Reached
-    ensures { result ≡ reached (jumping p ts.now) }
+pub fn jump(ts: &[[u64; 3]], p: usize) -> Result<InstrAddr, Refusal>
+    ensures { result ≡ jumping p ts.now }
 {
-    if rows::kind(ts, p) != rows::JZ {
-        return Reached::Refused(refusal::OTHER_KIND);
+    let w = condition(ts, p)?;
+    if w != 0 {
+        return Err(Refusal::OtherWay);
     }
-    match rows::first(ts, p) {
-        Operand::Known(u) => match u {
-            Value::Undefined => Reached::Refused(refusal::IS_UNDEFINED),
-            Value::Word(w) => {
-                if w != 0 {
-                    return Reached::Refused(refusal::OTHER_WAY);
-                }
-                target(rows::second(ts, p))
-            }
-        },
-        Operand::Waits(_) => Reached::Refused(refusal::NEEDS_TAG),
-    }
+    kernel::target(known(rows::second(ts, p))?)
 }
 
-// 0 where it falls through.
-pub fn no_jump(ts: &[[u64; 3]], p: usize) -> u8
-    ensures { result ≡ number (falling p ts.now) }
+// Whether it falls through.
+pub fn no_jump(ts: &[[u64; 3]], p: usize) -> Result<(), Refusal>
+    ensures { result ≡ falling p ts.now }
 {
-    if rows::kind(ts, p) != rows::JZ {
-        return refusal::OTHER_KIND;
+    let w = condition(ts, p)?;
+    if w == 0 {
+        return Err(Refusal::OtherWay);
     }
-    match rows::first(ts, p) {
-        Operand::Known(u) => match u {
-            Value::Undefined => refusal::IS_UNDEFINED,
-            Value::Word(w) => { if w == 0 { refusal::OTHER_WAY } else { 0 } }
-        },
-        Operand::Waits(_) => refusal::NEEDS_TAG,
-    }
+    Ok(())
 }
 
 // ---- the refusals
 
-fn load_refusal(r: Loaded) -> u8
-    ensures { result ≡ load_refusal r }
-{
-    match r {
-        Loaded::Is(_) => 0,
-        Loaded::Refused(n) => n,
-    }
-}
-
-fn jump_refusal(r: Reached) -> u8
-    ensures { result ≡ jump_refusal r }
-{
-    match r {
-        Reached::At(_) => 0,
-        Reached::Refused(n) => n,
-    }
-}
-
 // A store's address is refused as a load's is.
-fn store_refusal(ts: &[[u64; 3]], p: usize, memory: &[u8]) -> u8
-    ensures { result ≡ number (storing (cells memory.now) p ts.now) }
+fn store_refusal(ts: &[[u64; 3]], p: usize, memory: &[u8]) -> Result<(), Refusal>
+    ensures { result ≡ verdict_of (storing (cells memory.now) p ts.now) }
 {
-    if rows::kind(ts, p) != rows::STORE {
-        return refusal::OTHER_KIND;
-    }
-    if rows::memory_before(ts, p) {
-        return refusal::EARLIER_MEMORY;
-    }
-    match rows::first(ts, p) {
-        Operand::Known(u) => match rows::second(ts, p) {
-            Operand::Known(_) => load_refusal(kernel::read_at(memory, u)),
-            Operand::Waits(_) => refusal::NEEDS_TAG,
-        },
-        Operand::Waits(_) => refusal::NEEDS_TAG,
-    }
+    let (address, _) = store(ts, p)?;
+    kernel::read_at(memory, address).map(|_| ())
 }
 
-// The refusal of a rule at place p of n templates: 0 if it is accepted there.
-pub fn refusal_on(ts: &[[u64; 3]], rf: &[u64], n: usize, rule: Rule, p: usize, memory: &[u8]) -> u8
+// Why a rule is refused at place p of n templates, if it is.
+pub fn refusal_on(
+    ts: &[[u64; 3]],
+    rf: &[u64],
+    n: usize,
+    rule: Rule,
+    p: usize,
+    memory: &[u8],
+) -> Result<(), Refusal>
     ensures { result ≡ refusal_on n p ts.now rf.now (cells memory.now) rule }
 {
     if p >= n {
-        return refusal::NO_TEMPLATE;
+        return Err(Refusal::NoTemplate);
     }
     match rule {
-        Rule::Operate => load_refusal(operate(ts, p)),
+        Rule::Operate => operate(ts, p).map(|_| ()),
         Rule::Forward => forward(ts, n, p),
         Rule::Commit => commit(ts, rf, p),
         Rule::Retire => retire(ts, rf, n, p),
-        Rule::Load => load_refusal(load(ts, p, memory)),
+        Rule::Load => load(ts, p, memory).map(|_| ()),
         Rule::Store => store_refusal(ts, p, memory),
-        Rule::Jump => jump_refusal(jump(ts, p)),
+        Rule::Jump => jump(ts, p).map(|_| ()),
         Rule::NoJump => no_jump(ts, p),
     }
 }
 
 // The same at any place of any state.
-pub fn refusal_at(state: State, rule: Rule, place: usize, memory: &[u8]) -> u8
+pub fn refusal_at(state: State, rule: Rule, place: usize, memory: &[u8]) -> Result<(), Refusal>
     ensures { result ≡ refusal_at rule place (mach_of state) (cells memory.now) }
 {
-    let registers = state.registers;
-    let rf = table::numbers(registers);
-    let mut ts = [rows::BLANK; PLACES];
-    let mut i: usize = 0;
-    while i < PLACES {
-        let x = state.templates[i];
-        rows::put(&mut ts, i, x);
-        i += 1;
-    }
+    let rf = table::numbers(state.registers);
+    let ts = table::rows(state.templates);
     let n = rows::held(&ts, state.count);
     refusal_on(&ts, &rf, n, rule, place, memory)
 }

@@ -28,6 +28,7 @@ fn issuing(place: u8, tag: u8) -> Command
 }
 
 // The command that a record's four bytes are.
+#[tactic(auto, unfolding(rules::specs::Schedule::command_of))]
 pub fn read(rule: u8, place: u8, tag: u8, zero: u8) -> Command
     ensures { result ≡ command_of rule place tag zero }
 {

@@ -1,33 +1,35 @@
 -- `entry::enter` meets its contract.
 use mathlib.Core.Path.{refl}
-use native.Mathlib.Omega.{arith}
-use borrow.Author.Tests.{eq-eqb, ne_eqb}
+use Rattle.std.proofs.Common.{arith, rules}
+use Rattle.std.proofs.lemmas.Result.{err_from_is_err_and}
 use Rattle.isa.proofs.Programs.{program-whole}
 use Rattle.kernel.proofs.Checking.{checked-program}
 use Rattle.entry.specs.Entry.{entered}
 use Rattle.entry.proofs.enter.Goals as goal
 
-pub returns-then-verdict-ne0 : goal.returns-then-verdict-ne0
+pub returns-in_err-check : goal.returns-in_err-check
 unfolding entered
-returns-then-verdict-ne0 c = record { verdict = rw (← c.check-verdict.ensures, ne_eqb _ _ c.if-verdict-ne0.true) refl; long = c.sized.ensures }
+returns-in_err-check c =
+    let p = err_from_is_err_and c.from_residual.result c.from_residual.ensures.1 in
+    record { verdict = rw (p.1, p.2, ← c.check.ensures, c.in_err-check.was) refl; long = search rules }
 
-pub overflow_cast-instructions : goal.overflow_cast-instructions
-overflow_cast-instructions c =
-    let few = (program-whole c.args.program.now (checked-program c.args.program.now c.args.memory.now c.check-verdict.ensures c.if-verdict-ne0.false)).few in
-    omega arith
+pub overflow_cast-program : goal.overflow_cast-program
+overflow_cast-program c =
+    let few = (program-whole c.args.program.now (checked-program c.args.program.now c.args.memory.now c.check.ensures c.in_ok-check.was)).few in
+    omega (arith, few)
 
 pub returns-then-not-is_sound : goal.returns-then-not-is_sound
 unfolding entered
 returns-then-not-is_sound c =
     record {
-      verdict = rw (← c.check-verdict.ensures, eq-eqb _ _ c.if-verdict-ne0.false, ← c.is_sound.ensures, c.if-not-is_sound.true) refl;
-      long = c.sized.ensures;
+      verdict = rw (c.from.ensures, ← c.check.ensures, c.in_ok-check.was, ← c.is_sound.ensures, c.if-not-is_sound.true) refl;
+      long = search rules;
     }
 
 pub returns : goal.returns
 unfolding entered
 returns c =
     record {
-      verdict = rw (← c.check-verdict.ensures, eq-eqb _ _ c.if-verdict-ne0.false, ← c.is_sound.ensures, c.if-not-is_sound.false) refl;
-      long = c.sized.ensures;
+      verdict = rw (← c.check.ensures, c.in_ok-check.was, ← c.is_sound.ensures, c.if-not-is_sound.false) refl;
+      long = search rules;
     }
