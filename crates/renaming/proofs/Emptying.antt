@@ -1,63 +1,68 @@
 -- The loop of a drain is the drain.
-use mathlib.Core.Path.{◌≡◌, refl, sym, ap, ap₂, subst, ◌∙◌}
+use mathlib.Core.Path.{◌≡◌, refl, sym, ap, subst, ◌∙◌}
 use mathlib.Core.Logic.{◌≢◌}
 use Prim.Native.Nat.{ℕ, zero, suc, ◌+◌, ◌-◌, ◌<◌, ◌≤◌}
 use native.Mathlib.Numerals.{add-one}
 use native.Mathlib.Omega.{arith}
+use mathlib.Core.Bool.{true, false}
 use mathlib.Core.List.{List, [], ◌∷◌}
-use lib.ListN.{length, take, drop}
-use Rattle.records.specs.declared.Verdict.{Verdict}
-use Rattle.records.specs.Refusal.{no_template}
+use lib.ListN.{length, get_or, take, drop}
+use borrow.Author.Tests.{lt-ltb}
+use Rattle.std.specs.Prelude.{Result, Ok, Err}
+use Rattle.records.specs.declared.Fault.{Fault}
+use Rattle.records.specs.declared.Refusal.{Refusal}
+use Rattle.records.specs.declared.Refusal.TheVariants.{NoTemplate}
+use Rattle.records.specs.Refusal.{faulted}
+use Rattle.records.specs.Scan.{accepted}
 use Rattle.value.specs.declared.Value.{Value}
+use Rattle.isa.specs.declared.InstrAddr.{InstrAddr}
 use Rattle.cells.specs.Cells.{cells, image, Formed}
 use Rattle.kernel.proofs.Checking.{refuses, works}
 use Rattle.templates.specs.declared.Counter.{Counter}
-use Rattle.templates.specs.declared.Register.{Register}
 use Rattle.templates.specs.declared.State.{State}
 use Rattle.templates.specs.declared.Work.{Work}
-use Rattle.templates.specs.Machine.{Itb, Mach}
+use Rattle.templates.specs.Machine.{Itb, nothing, Mach, mach}
+use Rattle.templates.specs.Layout.{mach_of, state_of}
 use Rattle.sound.proofs.Decides.{sound_said}
-use Rattle.rows.specs.Rows.{Row, a_value, an_op, a_jz, a_load, row_at, itb_of, kind_at, tag_at, address_at}
+use Rattle.rows.specs.Rows.{Row, a_value, an_op, a_jz, a_load, row_at, itb_of, kind_at, tag_at, held_behind, in_register}
 use Rattle.rows.specs.Rows as Rows
-use Rattle.rows.specs.Shown.{held_of, regs_of, Table, File}
-use Rattle.rows.proofs.Showing.{held_long}
+use Rattle.rows.specs.Shown.{held_of, regs_of}
+use Rattle.rows.proofs.Showing.{here, searched, searched_registers}
 use Rattle.rows.proofs.Works.{work-value, work_op, work_jz, work-load, work-store}
 use Rattle.rules.specs.declared.Rule.{Rule}
 use Rattle.rules.specs.Rules as Rules
-use Rattle.rules.specs.Rules.{Step, refused, apply}
-use Rattle.rules.specs.Drain.{first, rules, first_of, seek, oldest, Drained, further, drain_from, drain, due, due_value, due_jump}
+use Rattle.rules.specs.Rules.{Step, refused, rule, apply}
+use Rattle.rules.specs.Drain.{first, rules, first_of, seek, oldest, Drained, further, drain_from, drain, due, due_value, due_jump, blocking, blocked_at}
 use Rattle.rules.proofs.Due.{first_at, same}
 use Rattle.rules.proofs.Keeping.{StaysSound, apply_keeps_sound}
-use Rattle.rules.proofs.Numbered.{Numbered, apply-numbered}
-use Rattle.judge.proofs.Answering.{at}
 use Rattle.entry.specs.Entry.{entered}
-use Rattle.renaming.specs.declared.Now.{Now}
 use Rattle.renaming.specs.declared.Settled.{Settled}
-use Rattle.renaming.specs.Entries.{drained, drained_memory, Drains, Empties}
-use Rattle.renaming.specs.Working.{shows, Inside, Stands, Acts, DrainsTo}
-use Rattle.renaming.proofs.Steps.{came_accepted, came_refused}
+use Rattle.renaming.specs.Entries.{settled, drained, drained_memory, Drains, Empties}
+use Rattle.renaming.specs.Working.{Coded, Inside, Acts, DrainsTo}
+use Rattle.renaming.proofs.Steps.{came_accepted, came_refused, place}
 
 -- ---- the rule that is due is the first of all that is accepted
 
-module _ {n p : ℕ} {ts : List Row} (s : Stands n p ts) (c : Counter) (rs : List Register) (m : List Value) where
-  abbrev σ : Mach
-  σ = shows c n ts rs
+module _ (p : ℕ) (σ : Mach) (h : p < length σ.held) (m : List Value) where
+  abbrev it : Itb
+  it = get_or σ.held p nothing
 
   abbrev pre : List Itb
-  pre = take p (held_of n ts)
+  pre = take p σ.held
 
   abbrev post : List Itb
-  post = drop (suc p) (held_of n ts)
+  post = drop (suc p) σ.held
 
-  abbrev here : Work
-  here = (itb_of (row_at ts p)).work
+  at : (r : Rule) → apply r p σ m ≡ rule r σ m pre it.address post it.work
+  unfolding apply
+  at r = rw (lt-ltb p (length σ.held) h) refl
 
-  first_at_lem : (qs : List Rule) → first_of qs p σ m ≡ first_at σ m pre (address_at ts p) post here qs
+  first_at_lem : (qs : List Rule) → first_of qs p σ m ≡ first_at σ m pre it.address post it.work qs
   first_at_lem [] = refl
-  first_at_lem (r ∷ qs) = ap₂ first (at s.table s.place c rs m r) (first_at_lem qs)
+  first_at_lem (r ∷ qs) = (λ i. first (at r i) (first_at_lem qs i))
 
-  due-first : (other : Step) → first (first_of rules p σ m) other ≡ first (apply (due rs post here) p σ m) other
-  due-first other = rw (first_at_lem rules, at s.table s.place c rs m (due rs post here)) (same σ m pre (address_at ts p) post other here)
+  due-first : (other : Step) → first (first_of rules p σ m) other ≡ first (apply (due σ.registers post it.work) p σ m) other
+  due-first other = rw (first_at_lem rules, at (due σ.registers post it.work)) (same σ m pre it.address post other it.work)
 
 -- ---- the loop of a drain
 
@@ -80,131 +85,110 @@ unfolding oldest
 from_first n σ l m = let all : length σ.held ≡ n - 0 = omega (arith, l) in ap (λ (k : ℕ). seek k 0 σ m) all
 
 -- the drain from here on is the whole drain d
-pub record Left (d : Drained) (b₀ : List ℕ) (c : Counter) (n : ℕ) (ts : List Row) (rf b : List ℕ) (k place : ℕ) : Type 0 where
-  pub rest : turn (256 - k) k (shows c n ts (regs_of rf)) (cells b) (from n place (shows c n ts (regs_of rf)) (cells b)) ≡ d
-  pub table : Table n ts
-  pub file : File rf
-  pub inside : Inside (shows c n ts (regs_of rf))
+pub record Left (d : Drained) (b₀ : List ℕ) (σ : Mach) (b : List ℕ) (k p : ℕ) : Type 0 where
+  pub rest : turn (256 - k) k σ (cells b) (from (length σ.held) p σ (cells b)) ≡ d
+  pub inside : Inside σ
   pub below : k ≤ 256
-  pub within : place ≤ n
-  pub long : length b ≡ length b₀
+  pub within : p ≤ length σ.held
   pub formed : Formed b₀ → Formed b
 
-pub drain_begins : (c : Counter) (n : ℕ) (ts : List Row) (rf b : List ℕ) → Table n ts → File rf → Inside (shows c n ts (regs_of rf))
-    → Left (drain (shows c n ts (regs_of rf)) (cells b)) b c n ts rf b 0 0
-drain_begins c n ts rf b t f i =
-    let σ = shows c n ts (regs_of rf) in
+pub drain_begins : (σ : Mach) (b : List ℕ) → Inside σ → Left (drain σ (cells b)) b σ b 0 0
+drain_begins σ b i =
     record {
-      rest = ap (turn 256 0 σ (cells b)) (sym (from_first n σ (held_long t) (cells b))) ∙ sym (turn-first 256 0 σ (cells b));
-      table = t;
-      file = f;
+      rest = ap (turn 256 0 σ (cells b)) (sym (from_first (length σ.held) σ refl (cells b))) ∙ sym (turn-first 256 0 σ (cells b));
       inside = i;
       below = omega arith;
       within = omega arith;
-      long = refl;
       formed = λ h. h;
     }
 
-module _ {d : Drained} {b₀ : List ℕ} {c : Counter} {n : ℕ} {ts : List Row} {rf b : List ℕ} {k place : ℕ} (l : Left d b₀ c n ts rf b k place) where
-  abbrev τ : Mach
-  τ = shows c n ts (regs_of rf)
+module _ {d : Drained} {b₀ : List ℕ} {σ : Mach} {b : List ℕ} {k p : ℕ} (l : Left d b₀ σ b k p) where
+  abbrev n : ℕ
+  n = length σ.held
 
   -- where the loop is left, the machine is as it is
-  ends : record { rules = k; machine = τ; memory = cells b } ≡ d → DrainsTo d b₀ (record { counter = c; count = n; rules = k }) ts rf b
-  ends e = record { end = e; table = l.table; file = l.file; formed = l.formed }
+  ends : record { rules = k; machine = σ; memory = cells b } ≡ d → DrainsTo d b₀ k σ b
+  ends e = record { end = e; formed = l.formed }
 
-  pub drain_spent : 256 ≤ k → DrainsTo d b₀ (record { counter = c; count = n; rules = k }) ts rf b
+  pub drain_spent : 256 ≤ k → DrainsTo d b₀ k σ b
   drain_spent h =
       let none : 0 ≡ 256 - k = omega arith in
-      ends (ap (λ (j : ℕ). turn j k τ (cells b) (from n place τ (cells b))) none ∙ l.rest)
+      ends (ap (λ (j : ℕ). turn j k σ (cells b) (from n p σ (cells b))) none ∙ l.rest)
 
   module _ (h : k < 256) where
-    another : (t : Step) → turn (256 - k) k τ (cells b) t
-        ≡ further (λ σ m. drain_from (256 - (k + 1)) (k + 1) σ m) (record { rules = k; machine = τ; memory = cells b }) t
-    another t = let more : 256 - k ≡ suc (256 - (k + 1)) = omega arith in ap (λ (j : ℕ). turn j k τ (cells b) t) more
+    another : (t : Step) → turn (256 - k) k σ (cells b) t
+        ≡ further (λ τ m. drain_from (256 - (k + 1)) (k + 1) τ m) (record { rules = k; machine = σ; memory = cells b }) t
+    another t = let more : 256 - k ≡ suc (256 - (k + 1)) = omega arith in ap (λ (j : ℕ). turn j k σ (cells b) t) more
 
-    pub drain_stops : n ≤ place → DrainsTo d b₀ (record { counter = c; count = n; rules = k }) ts rf b
+    pub drain_stops : n ≤ p → DrainsTo d b₀ k σ b
     drain_stops q =
-        let none : 0 ≡ n - place = omega arith in
-        ends (sym (another (refused no_template)) ∙ ap (λ (i : ℕ). turn (256 - k) k τ (cells b) (seek i place τ (cells b))) none ∙ l.rest)
+        let none : 0 ≡ n - p = omega arith in
+        ends (sym (another (refused NoTemplate)) ∙ ap (λ (i : ℕ). turn (256 - k) k σ (cells b) (seek i p σ (cells b))) none ∙ l.rest)
 
-    module _ (q : place < n) {rule : Rule} (e : rule ≡ due (regs_of rf) (drop (suc place) (held_of n ts)) (itb_of (row_at ts place)).work)
-        {r : Now} {ts' : List Row} {rf' b' : List ℕ} (a : Acts (apply rule place) c n ts rf b r ts' rf' b') where
+    module _ (q : p < n) {r : Rule} (e : r ≡ due σ.registers (drop (suc p) σ.held) (get_or σ.held p nothing).work)
+        {v : Result (Unit {0}) Refusal} {σ' : Mach} {b' : List ℕ} (a : Acts (apply r p) σ b v σ' b') where
       abbrev tried : Step
-      tried = apply rule place τ (cells b)
+      tried = apply r p σ (cells b)
 
-      numbered : Numbered tried
-      numbered = apply-numbered rule place τ (cells b)
-
-      here-first : from n place τ (cells b) ≡ first tried (from n (place + 1) τ (cells b))
+      here-first : from n p σ (cells b) ≡ first tried (from n (p + 1) σ (cells b))
       here-first =
-          let more : n - place ≡ suc (n - (place + 1)) = omega arith in
-          let later = from n (place + 1) τ (cells b) in
-          ap (λ (i : ℕ). seek i place τ (cells b)) more
-          ∙ ap (λ (i : ℕ). first (first_of rules place τ (cells b)) (seek (n - (place + 1)) i τ (cells b))) (sym (add-one place))
-          ∙ due-first (record { table = l.table; place = q }) c (regs_of rf) (cells b) later
-          ∙ ap (λ (x : Rule). first (apply x place τ (cells b)) later) (sym e)
+          let more : n - p ≡ suc (n - (p + 1)) = omega arith in
+          let later = from n (p + 1) σ (cells b) in
+          ap (λ (i : ℕ). seek i p σ (cells b)) more
+          ∙ ap (λ (i : ℕ). first (first_of rules p σ (cells b)) (seek (n - (p + 1)) i σ (cells b))) (sym (add-one p))
+          ∙ due-first p σ q (cells b) later
+          ∙ ap (λ (x : Rule). first (apply x p σ (cells b)) later) (sym e)
 
-      pub drain_again : r.refusal ≡ 0 → length b' ≡ length b → Left d b₀ r.counter r.count ts' rf' b' (k + 1) 0
-      drain_again z long =
+      pub drain_again : {x : Unit {0}} → v ≡ Ok x → Left d b₀ σ' b' (k + 1) 0
+      drain_again z =
           let i = l.inside in
-          let next = shows r.counter r.count ts' (regs_of rf') in
-          let went : tried ≡ Rules.accepted next (cells b') = came_accepted tried numbered a.does z in
-          let kept = subst (StaysSound i.0) went (apply_keeps_sound i.0 rule place τ (cells b) ((sound_said i.0 τ).holds i.2)) in
-          let found : from n place τ (cells b) ≡ Rules.accepted next (cells b') = here-first ∙ ap (λ (t : Step). first t (from n (place + 1) τ (cells b))) went in
+          let went : tried ≡ Rules.accepted σ' (cells b') = came_accepted a.does z in
+          let kept = subst (StaysSound i.0) went (apply_keeps_sound i.0 r p σ (cells b) ((sound_said i.0 σ).holds i.2)) in
+          let found : from n p σ (cells b) ≡ Rules.accepted σ' (cells b') = here-first ∙ ap (λ (t : Step). first t (from n (p + 1) σ (cells b))) went in
           record {
             rest =
-                ap (turn (256 - (k + 1)) (k + 1) next (cells b')) (sym (from_first r.count next (held_long a.does.table) (cells b')))
-                ∙ sym (turn-first (256 - (k + 1)) (k + 1) next (cells b'))
-                ∙ sym (another (Rules.accepted next (cells b')))
-                ∙ ap (turn (256 - k) k τ (cells b)) (sym found)
+                ap (turn (256 - (k + 1)) (k + 1) σ' (cells b')) (sym (from_first (length σ'.held) σ' refl (cells b')))
+                ∙ sym (turn-first (256 - (k + 1)) (k + 1) σ' (cells b'))
+                ∙ sym (another (Rules.accepted σ' (cells b')))
+                ∙ ap (turn (256 - k) k σ (cells b)) (sym found)
                 ∙ l.rest;
-            table = a.does.table;
-            file = a.file;
-            inside = (i.0, i.1, (sound_said i.0 next).says kept);
+            inside = (i.0, i.1, (sound_said i.0 σ').says kept);
             below = omega arith;
             within = omega arith;
-            long = long ∙ l.long;
             formed = λ f. a.formed (l.formed f);
           }
 
-      -- a refused rule leaves what is shown; the numbers themselves may not be looked at
-      pub drain_on : r.refusal ≢ 0 → length b' ≡ length b → Left d b₀ r.counter r.count ts' rf' b' k (place + 1)
-      drain_on z long =
-          let no = came_refused tried a.does z in
-          let next = shows r.counter r.count ts' (regs_of rf') in
-          let count : r.count ≡ n = sym (held_long a.does.table) ∙ ap (λ (x : Mach). length x.held) no.1 ∙ held_long l.table in
-          let left : from n place τ (cells b) ≡ from n (place + 1) τ (cells b) = here-first ∙ ap (λ (t : Step). first t (from n (place + 1) τ (cells b))) no.0 in
+      -- a refused rule leaves what is shown
+      pub drain_on : {why : Refusal} → v ≡ Err why → Left d b₀ σ' b' k (p + 1)
+      drain_on z =
+          let no = came_refused a.does z in
+          let left : from n p σ (cells b) ≡ from n (p + 1) σ (cells b) = here-first ∙ ap (λ (t : Step). first t (from n (p + 1) σ (cells b))) no.0 in
+          let count : length σ'.held ≡ n = ap (λ (x : Mach). length x.held) no.1 in
           record {
             rest =
-                ap (λ (j : ℕ). turn (256 - k) k next (cells b') (from j (place + 1) next (cells b'))) count
-                ∙ ap₂ (λ (x : Mach) (m : List Value). turn (256 - k) k x m (from n (place + 1) x m)) no.1 no.2
-                ∙ ap (turn (256 - k) k τ (cells b)) (sym left)
+                (λ i. turn (256 - k) k (no.1 i) (no.2 i) (from (length (no.1 i).held) (p + 1) (no.1 i) (no.2 i)))
+                ∙ ap (turn (256 - k) k σ (cells b)) (sym left)
                 ∙ l.rest;
-            table = a.does.table;
-            file = a.file;
             inside = subst Inside (sym no.1) l.inside;
             below = l.below;
             within = omega (arith, count, q);
-            long = long ∙ l.long;
             formed = λ f. a.formed (l.formed f);
           }
 
 -- ---- the entry
 
-module _ (p : List ℕ) (s : State) (b : List ℕ) {v : Verdict} (c : v ≡ entered p b s) where
-  pub drain-refused : v.refusal ≢ 0
-      → Drains p s b (record { state = s; rules = 0; refusal = v.refusal; number = v.number; address = record { 0 = 0 } }) b
+module _ (p : List ℕ) (s : State) (b : List ℕ) {v : Result (Unit {0}) Fault} (c : v ≡ entered p b s) where
+  pub drain-refused : {f : Fault} → v ≡ Err f → Drains p s b (record { state = s; rules = 0; verdict = v; address = record { 0 = 0 } }) b
   unfolding drained drained_memory
   drain-refused h =
       record {
         answer =
-            ap (λ (w : Verdict). record { state = s; rules = 0; refusal = w.refusal; number = w.number; address = record { 0 = 0 } }) c
+            ap (λ (w : Result (Unit {0}) Fault). record { state = s; rules = 0; verdict = w; address = record { 0 = 0 } }) c
             ∙ sym (refuses (entered p b s) c h _ _);
         bytes = sym (refuses (entered p b s) c h _ b);
       }
 
-  pub drain-done : v.refusal ≡ 0 → Formed b → {r : Settled} {b' : List ℕ} → Empties s b r b' → Drains p s b r b'
+  pub drain-done : v ≡ accepted → Formed b → {r : Settled} {b' : List ℕ} → Empties s b r b' → Drains p s b r b'
   unfolding drained drained_memory
   drain-done h f e =
       record {
@@ -212,23 +196,56 @@ module _ (p : List ℕ) (s : State) (b : List ℕ) {v : Verdict} (c : v ≡ ente
         bytes = sym (e.formed f) ∙ ap image e.holds ∙ sym (works (entered p b s) c h _ b);
       }
 
+module _ (p : List ℕ) (s : State) (b : List ℕ) where
+  pub drain-out : {f : Fault} → entered p b s ≡ Err f → Drains p s b (record { state = s; rules = 0; verdict = Err f; address = record { 0 = 0 } }) b
+  drain-out h = drain-refused p s b (sym h) refl
+
+  pub drain-in : entered p b s ≡ accepted → Formed b → {σ : Mach} → σ ≡ mach_of s → {k : ℕ} {σ' : Mach} {b' : List ℕ} → DrainsTo (drain σ (cells b)) b k σ' b'
+      → {left : State} → left ≡ state_of σ' → {u : Result (Unit {0}) Refusal} → u ≡ blocking σ' (cells b') σ'.held → {v : Result (Unit {0}) Fault} → v ≡ faulted u
+      → {at : InstrAddr} → at ≡ blocked_at σ'.held → Drains p s b (record { state = left; rules = k; verdict = v; address = at }) b'
+  drain-in h f q {k} g e w z j =
+      let all = g.end ∙ ap (λ (τ : Mach). drain τ (cells b)) q in
+      let said = z ∙ ap faulted w in
+      drain-done p s b (sym h) refl f
+      (record {
+        answer = (λ i. record { state = e i; rules = k; verdict = said i; address = j i }) ∙ ap settled all;
+        holds = ap (λ (d : Drained). d.memory) all;
+        formed = g.formed;
+      })
+
 -- ---- the rule that is due, by the kind
 
-module _ (rs : List Register) (post : List Itb) (ts : List Row) (p : ℕ) where
-  abbrev due_at : Rule
-  due_at = due rs post (itb_of (row_at ts p)).work
+module _ {n : ℕ} {ts : List Row} {rf : List ℕ} (w : Coded n ts rf) {c : Counter} {σ : Mach} (v : mach c (regs_of rf) (held_of n ts) ≡ σ) {p : ℕ} (h : p < length σ.held) where
+  abbrev due-at : Rule
+  due-at = due σ.registers (drop (suc p) σ.held) (get_or σ.held p nothing).work
 
-  pub due_value_lem : kind_at ts p ≡ a_value → due_at ≡ due_value rs post (tag_at ts p)
-  due_value_lem e = ap (due rs post) (work-value ts p e)
+  due_here : {x : Work} → (itb_of (row_at ts p)).work ≡ x → due (regs_of rf) (drop (suc p) (held_of n ts)) x ≡ due-at
+  due_here e =
+      ap (due (regs_of rf) (drop (suc p) (held_of n ts))) (sym e ∙ ap (λ (y : Itb). y.work) (here w.table (place w v h)))
+      ∙ ap (λ (x : Mach). due x.registers (drop (suc p) x.held) (get_or x.held p nothing).work) v
 
-  pub due_op : kind_at ts p ≡ an_op → due_at ≡ Rule.Operate
-  due_op e = ap (due rs post) (work_op ts p e)
+  module _ {k : ℕ} (q : k ≡ kind_at ts p) where
+    module _ (e : k ≡ a_value) where
+      as_value : due_value (regs_of rf) (drop (suc p) (held_of n ts)) (tag_at ts p) ≡ due-at
+      as_value = due_here (work-value ts p (sym q ∙ e))
 
-  pub due_jz : kind_at ts p ≡ a_jz → due_at ≡ due_jump (Rows.first_at ts p)
-  due_jz e = ap (due rs post) (work_jz ts p e)
+      pub due_forward : held_behind n p ts ≡ true → Rule.Forward ≡ due-at
+      due_forward a = rw (← as_value, ← searched w.table (place w v h), a) refl
 
-  pub due-load : kind_at ts p ≡ a_load → due_at ≡ Rule.Load
-  due-load e = ap (due rs post) (work-load ts p e)
+      pub due_commit : held_behind n p ts ≡ false → in_register (tag_at ts p) rf ≡ true → Rule.Commit ≡ due-at
+      due_commit a g = rw (← as_value, ← searched w.table (place w v h), a, ← searched_registers w.file (tag_at ts p), g) refl
 
-  pub due-store : kind_at ts p ≢ a_value → kind_at ts p ≢ an_op → kind_at ts p ≢ a_jz → kind_at ts p ≢ a_load → due_at ≡ Rule.Store
-  due-store a b d e = ap (due rs post) (work-store ts p a b d e)
+      pub due_retire : held_behind n p ts ≡ false → in_register (tag_at ts p) rf ≡ false → Rule.Retire ≡ due-at
+      due_retire a g = rw (← as_value, ← searched w.table (place w v h), a, ← searched_registers w.file (tag_at ts p), g) refl
+
+    pub due_op : k ≡ an_op → Rule.Operate ≡ due-at
+    due_op e = due_here (work_op ts p (sym q ∙ e))
+
+    pub due_jz : k ≡ a_jz → due_jump (Rows.first_at ts p) ≡ due-at
+    due_jz e = due_here (work_jz ts p (sym q ∙ e))
+
+    pub due-load : k ≡ a_load → Rule.Load ≡ due-at
+    due-load e = due_here (work-load ts p (sym q ∙ e))
+
+    pub due-store : k ≢ a_value → k ≢ an_op → k ≢ a_jz → k ≢ a_load → Rule.Store ≡ due-at
+    due-store a b d e = due_here (work-store ts p (λ x. a (q ∙ x)) (λ x. b (q ∙ x)) (λ x. d (q ∙ x)) (λ x. e (q ∙ x)))

@@ -1,19 +1,19 @@
 -- A state that was checked is the layout of a sound machine, whose templates are inside the program.
-use mathlib.Core.Path.{◌≡◌, refl, sym, ap, ◌∙◌}
-use mathlib.Core.Logic.{◌≢◌}
+use mathlib.Core.Path.{◌≡◌, refl, sym, ◌∙◌}
 use Prim.Native.Nat.{ℕ, zero, suc, ◌/◌, ◌≤◌, ◌<◌}
 use native.Mathlib.Omega.{arith}
-use mathlib.Core.Bool.{Bool, true, false, cond, not}
+use mathlib.Core.Bool.{Bool, true, false, cond}
 use mathlib.Core.List.{List, [], ◌∷◌}
 use lib.ListN.{length, get_or}
-use borrow.Author.Tests.{eq-eqb, ne_eqb, not-true, not-false}
-use Rattle.records.specs.declared.Verdict.{Verdict}
-use Rattle.records.specs.Refusal.{unsound}
-use Rattle.records.specs.Scan.{verdict, accepted}
+use Rattle.std.specs.Prelude.{Result}
+use Rattle.records.specs.declared.Fault.{Fault}
+use Rattle.records.specs.declared.Refusal.TheVariants.{Unsound}
+use Rattle.records.specs.Scan.{refused, accepted}
+use Rattle.records.proofs.Basics.{got_not_fails}
 use Rattle.isa.specs.Program as Program
 use Rattle.isa.proofs.Programs.{program-whole}
 use Rattle.cells.specs.Cells.{Formed}
-use Rattle.kernel.specs.Checks.{first, checked}
+use Rattle.kernel.specs.Checks.{checked}
 use Rattle.kernel.proofs.Checking.{both_accept, checked-program, checked-memory}
 use Rattle.templates.specs.declared.State.{State}
 use Rattle.templates.specs.Machine.{Itb, nothing, Mach}
@@ -27,15 +27,15 @@ use Rattle.renaming.specs.Working.{Within, Inside}
 
 -- ---- what the checks say
 
-is_sound_lem : (t : Bool) → (cond t accepted (verdict unsound 0)).refusal ≡ 0 → t ≡ true
+is_sound_lem : (t : Bool) → cond t accepted (refused Unsound 0) ≡ accepted → t ≡ true
 is_sound_lem true e = refl
-is_sound_lem false e = absurd (omega arith)
+is_sound_lem false e = got_not_fails e
 
-module _ (p b : List ℕ) (s : State) {v : Verdict} (e : Enters p b s v) (h : v.refusal ≡ 0) where
-  passed : ((checked p b).refusal ≡ 0) × (is_sound (length p / 8) s ≡ true)
+module _ (p b : List ℕ) (s : State) {v : Result (Unit {0}) Fault} (e : Enters p b s v) (h : v ≡ accepted) where
+  passed : (checked p b ≡ accepted) × (is_sound (length p / 8) s ≡ true)
   unfolding entered
   passed =
-      let both = both_accept (checked p b) (cond (is_sound (length p / 8) s) accepted (verdict unsound 0)) (sym (ap (λ (w : Verdict). w.refusal) e.verdict) ∙ h) in
+      let both = both_accept (checked p b) (cond (is_sound (length p / 8) s) accepted (refused Unsound 0)) (sym e.verdict ∙ h) in
       (both.0, is_sound_lem (is_sound (length p / 8) s) both.1)
 
   pub entered-program : Program.scan_of p ≡ accepted
@@ -50,24 +50,6 @@ module _ (p b : List ℕ) (s : State) {v : Verdict} (e : Enters p b s v) (h : v.
         laid = sound_laid (length p / 8) s e.long passed.1;
         sound = (sound_said (length p / 8) (mach_of s)).says (sound_machine (length p / 8) s e.long passed.1);
       }
-
--- ---- the checks, one after the other; r is what soundness was found to be
-
-module _ (p b : List ℕ) {v : Verdict} (e : v ≡ checked p b) where
-  abbrev both : Bool → Verdict
-  both t = first (checked p b) (cond t accepted (verdict unsound 0))
-
-  pub checks_refuse : (t : Bool) → v.refusal ≢ 0 → v ≡ both t
-  checks_refuse t h = e ∙ sym (rw (ne_eqb (checked p b).refusal 0 (λ q. h (ap (λ (w : Verdict). w.refusal) e ∙ q))) refl)
-
-  checks_pass : v.refusal ≡ 0 → (t : Bool) → cond t accepted (verdict unsound 0) ≡ both t
-  checks_pass h t = sym (rw (eq-eqb (checked p b).refusal 0 (sym (ap (λ (w : Verdict). w.refusal) e) ∙ h)) refl)
-
-  pub checks_unsound : v.refusal ≡ 0 → {r t : Bool} → r ≡ t → not r ≡ true → verdict unsound 0 ≡ both t
-  checks_unsound h {r} {t} q n = ap (λ (y : Bool). cond y accepted (verdict unsound 0)) (sym (not-true r n) ∙ q) ∙ checks_pass h t
-
-  pub checks_sound : v.refusal ≡ 0 → {r t : Bool} → r ≡ t → not r ≡ false → accepted ≡ both t
-  checks_sound h {r} {t} q n = ap (λ (y : Bool). cond y accepted (verdict unsound 0)) (sym (not-false r n) ∙ q) ∙ checks_pass h t
 
 -- ---- every template is inside the program
 

@@ -1,33 +1,35 @@
--- The entries: a refused one hands back what it was lent, and the loop of a run is the run.
-use mathlib.Core.Path.{◌≡◌, refl, sym, ap, ap₂, subst, ◌∙◌}
+-- The entries: a refused one hands back what it was lent, step is the run of one record, and the loop of a run is the run.
+use mathlib.Core.Path.{◌≡◌, refl, sym, ap, subst, ◌∙◌}
 use mathlib.Core.Logic.{◌≢◌}
 use Prim.Native.Nat.{ℕ, suc, ◌+◌, ◌*◌, ◌/◌, ◌%◌, ◌<◌, ◌≤◌}
 use native.Mathlib.Numerals.{add-one}
 use native.Mathlib.Omega.{arith}
+use mathlib.Core.Bool.{true, false, false≢true}
 use mathlib.Core.List.{List, [], ◌∷◌}
 use lib.ListN.{length, get_or, drop, drop_of_length-le}
 use borrow.Author.Tests.{eq-eqb, ne_eqb}
-use Rattle.records.specs.declared.Verdict.{Verdict}
-use Rattle.records.specs.Scan.{verdict}
+use Rattle.std.specs.Prelude.{Result, Ok, Err}
+use Rattle.std.specs.Result.{is_err}
+use Rattle.records.specs.declared.Fault.{Fault}
+use Rattle.records.specs.declared.Refusal.{Refusal}
+use Rattle.records.specs.declared.Refusal.TheVariants.{BadLength, BadSchedule}
+use Rattle.records.specs.Refusal.{fault, faulted}
+use Rattle.records.specs.Scan.{accepted}
 use Rattle.records.specs.Records.{tabulate}
 use Rattle.records.proofs.Tabulate.{length-tabulate, tabulate-at}
 use Rattle.records.proofs.Leading.{drop_some}
-use Rattle.value.specs.declared.Value.{Value}
 use Rattle.isa.specs.declared.Tag.{Tag}
 use Rattle.isa.specs.Program.{program}
 use Rattle.isa.proofs.Programs.{length-program}
 use Rattle.isa.proofs.Formed.{program_formed}
 use Rattle.cells.specs.Cells.{cells, image, Formed}
 use Rattle.kernel.proofs.Checking.{refuses, works}
-use Rattle.templates.specs.declared.Counter.{Counter}
 use Rattle.templates.specs.declared.State.{State}
 use Rattle.templates.specs.Machine.{Mach}
-use Rattle.templates.specs.Layout.{mach_of, Laid}
+use Rattle.templates.specs.Layout.{places, mach_of, state_of, Laid}
 use Rattle.templates.proofs.Places.{state_of-mach_of}
 use Rattle.sound.proofs.Soundness.{Sound}
 use Rattle.sound.proofs.Decides.{sound_said}
-use Rattle.rows.specs.Rows.{Row}
-use Rattle.rows.specs.Shown.{held_of, regs_of, Table, File}
 use Rattle.rules.specs.declared.Rule.{Rule}
 use Rattle.rules.specs.declared.Command.{Command}
 use Rattle.rules.specs.declared.Command.TheVariants.{Malformed, Issue, Apply}
@@ -36,97 +38,133 @@ use Rattle.rules.specs.Rules.{Step, refused, apply, issue}
 use Rattle.rules.specs.Schedule.{command_of, obey}
 use Rattle.rules.specs.Run.{End, commands, counted, proceed, run_from, run}
 use Rattle.rules.proofs.Keeping.{StaysSound, obey_keeps_sound}
-use Rattle.rules.proofs.Numbered.{obey-numbered}
 use Rattle.entry.specs.Entry.{entered}
-use Rattle.renaming.specs.declared.Now.{Now}
-use Rattle.renaming.specs.declared.Went.{Went}
+use Rattle.renaming.specs.declared.running.Went.{Went}
 use Rattle.renaming.specs.declared.Ran.{Ran}
+use Rattle.renaming.specs.declared.Stepped.{Stepped}
 use Rattle.renaming.specs.Answers.{answer_of, memory_of}
 use Rattle.renaming.specs.Entries.{entered_with, command, once, step_answer, stepped, stepped_memory, Steps, entered_run, runs, ended, ran, ran_memory, Runs, Goes}
-use Rattle.renaming.specs.Working.{shows, Within, DoesBoth, Acts, Ready, RunsTo}
-use Rattle.renaming.proofs.Steps.{now, no_step, came_accepted, came_refused}
-use Rattle.renaming.proofs.Fitting.{inside_within, few_instructions}
+use Rattle.renaming.specs.Working.{Within, Inside, DoesAlone, Acts, Ready, RunsTo}
+use Rattle.renaming.proofs.Steps.{no_step, came_accepted, came_refused}
+use Rattle.renaming.proofs.Fitting.{entered-fit, inside_within, few_instructions}
 
--- ---- step
-
-module _ (p : List ℕ) (s : State) (b one : List ℕ) {v : Verdict} (c : v ≡ entered_with p b s one) where
-  pub step-refused : v.refusal ≢ 0 → Steps p s b one (record { state = s; refusal = v.refusal; number = v.number }) b
-  unfolding stepped stepped_memory
-  step-refused h =
-      record {
-        answer =
-            ap (λ (w : Verdict). record { state = s; refusal = w.refusal; number = w.number }) c
-            ∙ sym (refuses (entered_with p b s one) c h _ _);
-        bytes = sym (refuses (entered_with p b s one) c h _ b);
-      }
-
-  -- a record that is obeyed, or refused: the state as it was is the layout of its machine
-  stepped_as : Laid s → (t : Step) → {r : Ran} → r ≡ ended (proceed (λ σ m. record { accepted = 1; issued = counted (command one) 0; refusal = 0; machine = σ; memory = m })
-      (λ no. record { accepted = 0; issued = 0; refusal = no; machine = mach_of s; memory = cells b }) t)
-      → record { state = r.state; refusal = r.refusal; number = 0 } ≡ step_answer (answer_of s t)
-  stepped_as l (Rules.accepted σ m) e = ap (λ (x : Ran). record { state = x.state; refusal = x.refusal; number = 0 }) e
-  stepped_as l (refused k) e =
-      ap (λ (x : Ran). record { state = x.state; refusal = x.refusal; number = 0 }) e
-      ∙ ap (λ (q : State). record { state = q; refusal = k; number = 0 }) (state_of-mach_of s l)
-
-  memory_as : (t : Step) → (proceed (λ σ m. record { accepted = 1; issued = counted (command one) 0; refusal = 0; machine = σ; memory = m })
-      (λ no. record { accepted = 0; issued = 0; refusal = no; machine = mach_of s; memory = cells b }) t).memory ≡ memory_of (cells b) t
-  memory_as (Rules.accepted σ m) = refl
-  memory_as (refused k) = refl
-
-  one-command : length one ≡ 4 → commands one ≡ command one ∷ []
-  unfolding commands
-  one-command h = ap (λ (n : ℕ). tabulate (n / 4) (λ i. command_of (get_or one (4 * i) 0) (get_or one (4 * i + 1) 0) (get_or one (4 * i + 2) 0) (get_or one (4 * i + 3) 0))) h
-
-  one-run : length one ≡ 4 → runs p s b one
-      ≡ proceed (λ σ m. record { accepted = 1; issued = counted (command one) 0; refusal = 0; machine = σ; memory = m })
-      (λ no. record { accepted = 0; issued = 0; refusal = no; machine = mach_of s; memory = cells b }) (once p s b one)
-  unfolding run_from
-  one-run h = ap (λ cs. run_from (program p) cs 0 0 (mach_of s) (cells b)) (one-command h)
-
-  pub step-done : v.refusal ≡ 0 → length one ≡ 4 → Laid s → Formed b → {r : Ran} {b' : List ℕ} → Goes p s b one r b'
-      → Steps p s b one (record { state = r.state; refusal = r.refusal; number = 0 }) b'
-  unfolding stepped stepped_memory
-  step-done h four l f g =
-      let t = once p s b one in
-      record {
-        answer = stepped_as l t (g.answer ∙ ap ended (one-run four)) ∙ sym (works (entered_with p b s one) c h _ _);
-        bytes = sym (g.formed f) ∙ ap image (g.holds ∙ ap (λ (x : End). x.memory) (one-run four) ∙ memory_as t) ∙ sym (works (entered_with p b s one) c h _ b);
-      }
-
--- the length of the record goes first
-pub record-length : (p b : List ℕ) (s : State) (one : List ℕ) → length one ≢ 4 → entered_with p b s one ≡ verdict 1 0
-record-length p b s one h = rw (ne_eqb (length one) 4 h) refl
+-- ---- the lengths go first
 
 pub record-whole : (p b : List ℕ) (s : State) (one : List ℕ) → length one ≡ 4 → entered p b s ≡ entered_with p b s one
 record-whole p b s one h = rw (eq-eqb (length one) 4 h) refl
 
--- ---- run
-
-pub schedule_length : (p b : List ℕ) (s : State) (records : List ℕ) → length records % 4 ≢ 0 → entered_run p b s records ≡ verdict 1 0
-schedule_length p b s records h = rw (ne_eqb (length records % 4) 0 h) refl
-
 pub schedule_whole : (p b : List ℕ) (s : State) (records : List ℕ) → length records % 4 ≡ 0 → entered p b s ≡ entered_run p b s records
 schedule_whole p b s records h = rw (eq-eqb (length records % 4) 0 h) refl
 
-module _ (p : List ℕ) (s : State) (b records : List ℕ) {v : Verdict} (c : v ≡ entered_run p b s records) where
-  pub run-refused : v.refusal ≢ 0 → Runs p s b records (record { state = s; accepted = 0; issued = 0; refusal = v.refusal; number = v.number }) b
+-- ---- run
+
+module _ (p : List ℕ) (s : State) (b records : List ℕ) {v : Result (Unit {0}) Fault} (c : v ≡ entered_run p b s records) where
+  pub run-refused : {f : Fault} → v ≡ Err f → Runs p s b records (record { state = s; accepted = 0; issued = 0; verdict = v }) b
   unfolding ran ran_memory
   run-refused h =
       record {
         answer =
-            ap (λ (w : Verdict). record { state = s; accepted = 0; issued = 0; refusal = w.refusal; number = w.number }) c
+            ap (λ (w : Result (Unit {0}) Fault). record { state = s; accepted = 0; issued = 0; verdict = w }) c
             ∙ sym (refuses (entered_run p b s records) c h _ _);
         bytes = sym (refuses (entered_run p b s records) c h _ b);
       }
 
-  pub run-done : v.refusal ≡ 0 → Formed b → {r : Ran} {b' : List ℕ} → Goes p s b records r b' → Runs p s b records r b'
+  pub run-done : v ≡ accepted → Formed b → {r : Ran} {b' : List ℕ} → Goes p s b records r b' → Runs p s b records r b'
   unfolding ran ran_memory
   run-done h f g =
       record {
         answer = g.answer ∙ sym (works (entered_run p b s records) c h _ _);
         bytes = sym (g.formed f) ∙ ap image g.holds ∙ sym (works (entered_run p b s records) c h _ b);
       }
+
+module _ (p : List ℕ) (s : State) (b records : List ℕ) where
+  pub run_unwhole : length records % 4 ≢ 0 → {f : Fault} → f ≡ fault BadLength 0 → {r : Ran} → r ≡ record { state = s; accepted = 0; issued = 0; verdict = Err f } → Runs p s b records r b
+  run_unwhole h k e =
+      let long : Err (fault BadLength 0) ≡ entered_run p b s records = rw (ne_eqb (length records % 4) 0 h) refl in
+      subst (λ (r : Ran). Runs p s b records r b) (sym (e ∙ ap (λ (f : Fault). record { state = s; accepted = 0; issued = 0; verdict = Err f }) k)) (run-refused p s b records long refl)
+
+  module _ (whole : length records % 4 ≡ 0) where
+    pub run-out : {f : Fault} → entered p b s ≡ Err f → {r : Ran} → r ≡ record { state = s; accepted = 0; issued = 0; verdict = Err f } → Runs p s b records r b
+    run-out h e = subst (λ (r : Ran). Runs p s b records r b) (sym e) (run-refused p s b records (sym h ∙ schedule_whole p b s records whole) refl)
+
+    pub run-in : entered p b s ≡ accepted → Formed b → {σ : Mach} → σ ≡ mach_of s → {r : Went} {σ' : Mach} {b' : List ℕ}
+        → RunsTo (run (program p) (commands records) σ (cells b)) b r σ' b' → {left : State} → left ≡ state_of σ'
+        → {v : Result (Unit {0}) Fault} → v ≡ faulted r.verdict → Runs p s b records (record { state = left; accepted = r.accepted; issued = r.issued; verdict = v }) b'
+    run-in h f q {r} g e k =
+        let all = g.end ∙ ap (λ (τ : Mach). run (program p) (commands records) τ (cells b)) q in
+        run-done p s b records (sym h ∙ schedule_whole p b s records whole) refl f
+        (record {
+          answer =
+              (λ i. record { state = e i; accepted = r.accepted; issued = r.issued; verdict = k i }) ∙ ap ended all;
+          holds = ap (λ (x : End). x.memory) all;
+          formed = g.formed;
+        })
+
+-- ---- step: the run of one record
+
+module _ (p : List ℕ) (s : State) (b one : List ℕ) where
+  pub step_unwhole : length one ≢ 4 → {f : Fault} → f ≡ fault BadLength 0 → Steps p s b one (record { state = s; verdict = Err f }) b
+  unfolding stepped stepped_memory
+  step_unwhole h k = record { answer = rw (ne_eqb (length one) 4 h, k) refl; bytes = rw (ne_eqb (length one) 4 h) refl }
+
+  -- where the step leads, as a run's end
+  abbrev end_of : Step → End
+  end_of t =
+      proceed (λ σ m. record { accepted = 1; issued = counted (command one) 0; verdict = Ok tt; machine = σ; memory = m })
+      (λ no. record { accepted = 0; issued = 0; verdict = Err no; machine = mach_of s; memory = cells b }) t
+
+  abbrev step_of : Ran → Stepped
+  step_of r = record { state = r.state; verdict = r.verdict }
+
+  -- a record that is obeyed, or refused: the state as it was is the layout of its machine
+  stepped_as : Laid s → (t : Step) → step_of (ended (end_of t)) ≡ step_answer (answer_of s t)
+  stepped_as l (Rules.accepted σ m) = refl
+  stepped_as l (refused k) = ap (λ (q : State). record { state = q; verdict = Err (fault k 0) }) (state_of-mach_of s l)
+
+  memory_as : (t : Step) → (end_of t).memory ≡ memory_of (cells b) t
+  memory_as (Rules.accepted σ m) = refl
+  memory_as (refused k) = refl
+
+  module _ (four : length one ≡ 4) where
+    one-command : commands one ≡ command one ∷ []
+    unfolding commands
+    one-command = ap (λ (n : ℕ). tabulate (n / 4) (λ i. command_of (get_or one (4 * i) 0) (get_or one (4 * i + 1) 0) (get_or one (4 * i + 2) 0) (get_or one (4 * i + 3) 0))) four
+
+    one-run : runs p s b one ≡ end_of (once p s b one)
+    unfolding run_from
+    one-run = ap (λ cs. run_from (program p) cs 0 0 (mach_of s) (cells b)) one-command
+
+    both : entered_run p b s one ≡ entered_with p b s one
+    both = let whole : length one % 4 ≡ 0 = omega (arith, four) in sym (schedule_whole p b s one whole) ∙ record-whole p b s one four
+
+    step_goes : entered_with p b s one ≡ accepted → Laid s → {r : Ran} {b' : List ℕ} → Runs p s b one r b' → Steps p s b one (step_of r) b'
+    unfolding ran ran_memory stepped stepped_memory
+    step_goes h l g =
+        record {
+          answer =
+              ap step_of (g.answer ∙ works (entered_run p b s one) refl (both ∙ h) _ _ ∙ ap ended one-run)
+              ∙ stepped_as l (once p s b one) ∙ sym (works (entered_with p b s one) refl h _ _);
+          bytes =
+              g.bytes ∙ works (entered_run p b s one) refl (both ∙ h) _ b ∙ ap image (ap (λ (x : End). x.memory) one-run ∙ memory_as (once p s b one))
+              ∙ sym (works (entered_with p b s one) refl h _ b);
+        }
+
+    step_stays : {f : Fault} → entered_with p b s one ≡ Err f → {r : Ran} {b' : List ℕ} → Runs p s b one r b' → Steps p s b one (step_of r) b'
+    unfolding ran ran_memory stepped stepped_memory
+    step_stays h g =
+        record {
+          answer =
+              ap step_of (g.answer ∙ refuses (entered_run p b s one) refl (both ∙ h) _ _) ∙ ap (λ (v : Result (Unit {0}) Fault). record { state = s; verdict = v }) both
+              ∙ sym (refuses (entered_with p b s one) refl h _ _);
+          bytes = g.bytes ∙ refuses (entered_run p b s one) refl (both ∙ h) _ b ∙ sym (refuses (entered_with p b s one) refl h _ b);
+        }
+
+    pub step_run : length s.templates ≡ places → {r : Ran} {b' : List ℕ} → Runs p s b one r b' → Steps p s b one (record { state = r.state; verdict = r.verdict }) b'
+    step_run long {r} {b'} g = by (entered_with p b s one) refl
+      where
+        by : (v : Result (Unit {0}) Fault) → entered_with p b s one ≡ v → Steps p s b one (step_of r) b'
+        by (Ok x) h = step_goes h (entered-fit p b s (record { verdict = sym (record-whole p b s one four); long = long }) h).laid g
+        by (Err f) h = step_stays h g
 
 -- ---- the loop of a run
 
@@ -149,111 +187,106 @@ counted_le Malformed k = omega arith
 counted_le (Issue t) k = omega arith
 counted_le (Apply r place) k = omega arith
 
+-- an answer by its test
+passed : (r : Result (Unit {0}) Refusal) → is_err r ≡ false → r ≡ Ok tt
+passed (Ok x) e = refl
+passed (Err k) e = absurd (false≢true (sym e))
+
+failed : (r : Result (Unit {0}) Refusal) → is_err r ≡ true → (why : Refusal) × (r ≡ Err why)
+failed (Ok x) e = absurd (false≢true e)
+failed (Err k) e = (k, refl)
+
 -- the run from here on is the whole run e
-pub record Left (p : List ℕ) (e : End) (b₀ records : List ℕ) (c : Counter) (n : ℕ) (ts : List Row) (rf b : List ℕ) (i k : ℕ) : Type 0 where
-  pub rest : run_from (program p) (drop i (commands records)) i k (shows c n ts (regs_of rf)) (cells b) ≡ e
-  pub ready : Ready p c n ts rf
-  pub below : i ≤ length records / 4
+pub record Left (p : List ℕ) (e : End) (b₀ records : List ℕ) (σ : Mach) (b : List ℕ) (i k : ℕ) : Type 0 where
+  pub rest : run_from (program p) (drop i (commands records)) i k σ (cells b) ≡ e
+  pub ready : Ready p σ
   pub issues : k ≤ i
-  pub long : length b ≡ length b₀
   pub formed : Formed b₀ → Formed b
 
-pub run_begins : (p : List ℕ) (c : Counter) (n : ℕ) (ts : List Row) (rf b records : List ℕ) → Ready p c n ts rf
-    → Left p (run (program p) (commands records) (shows c n ts (regs_of rf)) (cells b)) b records c n ts rf b 0 0
-run_begins p c n ts rf b records r = record { rest = refl; ready = r; below = omega arith; issues = omega arith; long = refl; formed = λ h. h }
+pub run_begins : (p records : List ℕ) (σ : Mach) (b : List ℕ) → Ready p σ → Left p (run (program p) (commands records) σ (cells b)) b records σ b 0 0
+run_begins p records σ b r = record { rest = refl; ready = r; issues = omega arith; formed = λ h. h }
 
-pub ready_within : {p : List ℕ} {c : Counter} {n : ℕ} {ts : List Row} {rf : List ℕ} → Ready p c n ts rf → Within (held_of n ts)
-ready_within {p} {c} {n} {ts} {rf} r = inside_within (shows c n ts (regs_of rf)) (length p / 8, few_instructions p r.scanned, r.sound)
+pub ready_inside : {p : List ℕ} {σ : Mach} → Ready p σ → Inside σ
+ready_inside {p} r = (length p / 8, few_instructions p r.scanned, r.sound)
 
-module _ (p : List ℕ) (d : Command) {c : Counter} {n : ℕ} {ts : List Row} {rf b : List ℕ} {r : Now} {ts' : List Row} {rf' b' : List ℕ}
-    (y : Ready p c n ts rf) (o : Acts (obey (program p) d) c n ts rf b r ts' rf' b') where
-  abbrev before : Mach
-  before = shows c n ts (regs_of rf)
+pub ready_within : {p : List ℕ} {σ : Mach} → Ready p σ → Within σ.held
+ready_within {p} {σ} r = inside_within σ (ready_inside r)
 
-  obeyed : r.refusal ≡ 0 → obey (program p) d before (cells b) ≡ Rules.accepted (shows r.counter r.count ts' (regs_of rf')) (cells b')
-  obeyed z = came_accepted (obey (program p) d before (cells b)) (obey-numbered (program p) before (cells b) d) o.does z
-
-  still_ready : r.refusal ≡ 0 → Ready p r.counter r.count ts' rf'
+module _ (p : List ℕ) (d : Command) {σ : Mach} {b : List ℕ} {r : Result (Unit {0}) Refusal} {σ' : Mach} {b' : List ℕ} (y : Ready p σ) (o : Acts (obey (program p) d) σ b r σ' b') where
+  still_ready : r ≡ Ok tt → Ready p σ'
   still_ready z =
-      let sound : Sound (length (program p)) before = rw (length-program p y.scanned) ((sound_said (length p / 8) before).holds y.sound) in
-      let kept = subst (StaysSound (length (program p))) (obeyed z) (obey_keeps_sound (program p) (program_formed p) before (cells b) sound d) in
+      let sound : Sound (length (program p)) σ = rw (length-program p y.scanned) ((sound_said (length p / 8) σ).holds y.sound) in
+      let kept = subst (StaysSound (length (program p))) (came_accepted o.does z) (obey_keeps_sound (program p) (program_formed p) σ (cells b) sound d) in
       record {
-        table = o.does.table;
-        file = o.file;
-        sound = (sound_said (length p / 8) (shows r.counter r.count ts' (regs_of rf'))).says (subst (λ (k : ℕ). Sound k (shows r.counter r.count ts' (regs_of rf'))) (length-program p y.scanned) kept);
+        sound = (sound_said (length p / 8) σ').says (subst (λ (k : ℕ). Sound k σ') (length-program p y.scanned) kept);
         scanned = y.scanned;
       }
 
-abbrev pub went : Now → ℕ → ℕ → Went
-went r i k = record { counter = r.counter; count = r.count; accepted = i; issued = k; refusal = r.refusal }
-
-module _ {p : List ℕ} {e : End} {b₀ records : List ℕ} {c : Counter} {n : ℕ} {ts : List Row} {rf b : List ℕ} {i k : ℕ} (l : Left p e b₀ records c n ts rf b i k) where
-  module _ (h : i < length records / 4) {d : Command} (q : d ≡ command_at records i) {r : Now} {ts' : List Row} {rf' b' : List ℕ} (o : Acts (obey (program p) d) c n ts rf b r ts' rf' b') where
+module _ {p : List ℕ} {e : End} {b₀ records : List ℕ} {σ : Mach} {b : List ℕ} {i k : ℕ} (l : Left p e b₀ records σ b i k) where
+  module _ (h : i < length records / 4) {d : Command} (q : d ≡ command_at records i) {r : Result (Unit {0}) Refusal} {σ' : Mach} {b' : List ℕ} (o : Acts (obey (program p) d) σ b r σ' b') where
     -- the record at hand
-    step : run_from (program p) (drop i (commands records)) i k (shows c n ts (regs_of rf)) (cells b)
-        ≡ proceed (λ σ m. run_from (program p) (drop (suc i) (commands records)) (i + 1) (counted d k) σ m)
-        (λ no. record { accepted = i; issued = k; refusal = no; machine = shows c n ts (regs_of rf); memory = cells b })
-        (obey (program p) d (shows c n ts (regs_of rf)) (cells b))
+    step : run_from (program p) (drop i (commands records)) i k σ (cells b)
+        ≡ proceed (λ τ m. run_from (program p) (drop (suc i) (commands records)) (i + 1) (counted d k) τ m)
+        (λ no. record { accepted = i; issued = k; verdict = Err no; machine = σ; memory = cells b })
+        (obey (program p) d σ (cells b))
     unfolding run_from
     step = rw (command-drop records i h, ← q) refl
 
-    pub run_again : r.refusal ≡ 0 → length b' ≡ length b → {k' : ℕ} → k' ≡ counted d k → Left p e b₀ records r.counter r.count ts' rf' b' (i + 1) k'
-    run_again z long {k'} kk =
-        subst (λ (y : ℕ). Left p e b₀ records r.counter r.count ts' rf' b' (i + 1) y) (sym kk)
+    pub run_again : is_err r ≡ false → {k' : ℕ} → k' ≡ counted d k → Left p e b₀ records σ' b' (i + 1) k'
+    run_again n {k'} kk =
+        let z = passed r n in
+        subst (λ (y : ℕ). Left p e b₀ records σ' b' (i + 1) y) (sym kk)
         (record {
           rest =
-              ap (λ (y : ℕ). run_from (program p) (drop y (commands records)) (i + 1) (counted d k) (shows r.counter r.count ts' (regs_of rf')) (cells b')) (add-one i)
-              ∙ sym (step ∙ ap (proceed _ _) (obeyed p d l.ready o z))
+              ap (λ (y : ℕ). run_from (program p) (drop y (commands records)) (i + 1) (counted d k) σ' (cells b')) (add-one i)
+              ∙ sym (step ∙ ap (proceed _ _) (came_accepted o.does z))
               ∙ l.rest;
           ready = still_ready p d l.ready o z;
-          below = omega arith;
           issues = omega (arith, counted_le d k, l.issues);
-          long = long ∙ l.long;
           formed = λ f. o.formed (l.formed f);
         })
 
-    pub run_stops : r.refusal ≢ 0 → {w : Went} → w ≡ went r i k → RunsTo e b₀ w ts' rf' b'
-    run_stops z {w} q =
-        let s = came_refused (obey (program p) d (shows c n ts (regs_of rf)) (cells b)) o.does z in
-        subst (λ (v : Went). RunsTo e b₀ v ts' rf' b') (sym q)
-        (record {
+    pub run_stops : is_err r ≡ true → RunsTo e b₀ (record { accepted = i; issued = k; verdict = r }) σ' b'
+    run_stops n =
+        let z = (failed r n).1 in
+        let s = came_refused o.does z in
+        record {
           end =
-              ap₂ (λ (σ : Mach) (m : List Value). record { accepted = i; issued = k; refusal = r.refusal; machine = σ; memory = m }) s.1 s.2
+              (λ j. record { accepted = i; issued = k; verdict = z j; machine = s.1 j; memory = s.2 j })
               ∙ sym (step ∙ ap (proceed _ _) s.0) ∙ l.rest;
-          table = o.does.table;
-          file = o.file;
           formed = λ f. o.formed (l.formed f);
-        })
+        }
 
-  pub run_ends : length records / 4 ≤ i → RunsTo e b₀ (record { counter = c; count = n; accepted = i; issued = k; refusal = 0 }) ts rf b
+  pub run_ends : i ≡ length records / 4 → RunsTo e b₀ (record { accepted = length records / 4; issued = k; verdict = Ok tt }) σ b
   unfolding run_from
   run_ends h =
+      let least : length records / 4 ≤ i = omega (arith, h) in
       record {
-        end = ap (λ cs. run_from (program p) cs i k (shows c n ts (regs_of rf)) (cells b)) (sym (none_left records i h)) ∙ l.rest;
-        table = l.ready.table;
-        file = l.ready.file;
+        end =
+            ap (λ (j : ℕ). record { accepted = j; issued = k; verdict = Ok tt; machine = σ; memory = cells b }) (sym h)
+            ∙ ap (λ cs. run_from (program p) cs i k σ (cells b)) (sym (none_left records i least)) ∙ l.rest;
         formed = l.formed;
       }
 
 -- ---- a command obeyed
 
-module _ (p : List ℕ) {c : Counter} {n : ℕ} {ts : List Row} {rf b : List ℕ} where
-  pub obeys_malformed : {d : Command} → d ≡ Malformed → Table n ts → File rf → Acts (obey (program p) d) c n ts rf b (now c n 5) ts rf b
+module _ (p : List ℕ) {σ : Mach} {b : List ℕ} where
+  pub obeys_malformed : {d : Command} → d ≡ Malformed → Acts (obey (program p) d) σ b (Err BadSchedule) σ b
   unfolding obey
-  obeys_malformed e t f = record { does = no_step t 5 (ap (λ (y : Command). obey (program p) y (shows c n ts (regs_of rf)) (cells b)) e); file = f; formed = λ g. g }
+  obeys_malformed {d} e = record { does = no_step (obey (program p) d) (ap (λ (y : Command). obey (program p) y σ (cells b)) e); formed = λ g. g }
 
-  module _ {x : Now} {ts' : List Row} {rf' : List ℕ} where
-    issue_so : (t : Tag) → DoesBoth (issue (program p) t) c n ts rf x ts' rf' → Acts (obey (program p) (Issue t)) c n ts rf b x ts' rf' b
+  module _ {r : Result (Unit {0}) Refusal} {σ' : Mach} where
+    issue_so : (t : Tag) → DoesAlone (issue (program p) t) σ r σ' → Acts (obey (program p) (Issue t)) σ b r σ' b
     unfolding obey
-    issue_so t d = record { does = d.does (cells b); file = d.file; formed = λ g. g }
+    issue_so t d = record { does = d (cells b); formed = λ g. g }
 
-    pub obeys_issue : {d : Command} (t : Tag) → d ≡ Issue t → DoesBoth (issue (program p) t) c n ts rf x ts' rf' → Acts (obey (program p) d) c n ts rf b x ts' rf' b
-    obeys_issue t e a = subst (λ (y : Command). Acts (obey (program p) y) c n ts rf b x ts' rf' b) (sym e) (issue_so t a)
+    pub obeys_issue : {d : Command} {t : Tag} → d ≡ Issue t → DoesAlone (issue (program p) t) σ r σ' → Acts (obey (program p) d) σ b r σ' b
+    obeys_issue {t = t} e a = subst (λ (y : Command). Acts (obey (program p) y) σ b r σ' b) (sym e) (issue_so t a)
 
     module _ {b' : List ℕ} where
-      apply_so : (r : Rule) (place : ℕ) → Acts (apply r place) c n ts rf b x ts' rf' b' → Acts (obey (program p) (Apply r place)) c n ts rf b x ts' rf' b'
+      apply_so : (rule : Rule) (place : ℕ) → Acts (apply rule place) σ b r σ' b' → Acts (obey (program p) (Apply rule place)) σ b r σ' b'
       unfolding obey
-      apply_so r place a = a
+      apply_so rule place a = a
 
-      pub obeys_apply : {d : Command} (r : Rule) (place : ℕ) → d ≡ Apply r place → Acts (apply r place) c n ts rf b x ts' rf' b' → Acts (obey (program p) d) c n ts rf b x ts' rf' b'
-      obeys_apply r place e a = subst (λ (y : Command). Acts (obey (program p) y) c n ts rf b x ts' rf' b') (sym e) (apply_so r place a)
+      pub obeys_apply : {d : Command} {rule : Rule} {place : ℕ} → d ≡ Apply rule place → Acts (apply rule place) σ b r σ' b' → Acts (obey (program p) d) σ b r σ' b'
+      obeys_apply {rule = rule} {place = place} e a = subst (λ (y : Command). Acts (obey (program p) y) σ b r σ' b') (sym e) (apply_so rule place a)

@@ -1,5 +1,6 @@
 -- What an entry answers for a rule on the machine without blanks, through the layout.
-use Rattle.std.specs.Prelude.{ℕ, ◌/◌, ◌≡◌, true, List, length}
+use Rattle.std.specs.Prelude.{ℕ, ◌/◌, ◌≡◌, true, List, length, Result, Ok, Err}
+use Rattle.records.specs.declared.Refusal.{Refusal}
 use Rattle.value.specs.declared.Value.{Value}
 use Rattle.templates.specs.declared.State.{State}
 use Rattle.templates.specs.Machine.{Mach}
@@ -7,22 +8,22 @@ use Rattle.templates.specs.Layout.{mach_of, state_of, Laid}
 use Rattle.sound.specs.Sound.{sound_mach}
 use Rattle.rules.specs.Rules.{Step, accepted, refused}
 
--- the state after a rule, and the refusal, 0 if there is none
+-- the state after a rule, and the refusal, if there is one
 pub record Answer : Type 0 where
   pub state : State
-  pub refusal : ℕ
+  pub verdict : Result Unit Refusal
 
-abbrev pub answer : State → ℕ → Answer
-answer s n = record { state = s; refusal = n }
+abbrev pub answer : State → Result Unit Refusal → Answer
+answer s v = record { state = s; verdict = v }
 
 -- an accepted machine is laid out again
 abbrev pub done : Mach → Answer
-done σ = answer (state_of σ) 0
+done σ = answer (state_of σ) (Ok tt)
 
 -- a refusal hands the state back
 abbrev pub answer_of : State → Step → Answer
 answer_of s (accepted σ m) = done σ
-answer_of s (refused n) = answer s n
+answer_of s (refused n) = answer s (Err n)
 
 abbrev pub memory_of : List Value → Step → List Value
 memory_of m (accepted σ m') = m'

@@ -1,8 +1,9 @@
 -- The entries of the renaming machine on bytes, with their checks.
-use Rattle.std.specs.Prelude.{◌≡◌, ℕ, ◌%◌, cond, List, eqb, length, get_or}
-use Rattle.records.specs.declared.Verdict.{Verdict}
-use Rattle.records.specs.Refusal.{bad_length}
-use Rattle.records.specs.Scan.{verdict}
+use Rattle.std.specs.Prelude.{◌≡◌, ℕ, ◌%◌, cond, List, eqb, length, get_or, Result}
+use Rattle.records.specs.declared.Fault.{Fault}
+use Rattle.records.specs.declared.Refusal.TheVariants.{BadLength}
+use Rattle.records.specs.Refusal.{faulted}
+use Rattle.records.specs.Scan.{refused}
 use Rattle.isa.specs.Program.{program}
 use Rattle.cells.specs.Cells.{cells, image, Formed}
 use Rattle.kernel.specs.Checks.{if_checked}
@@ -22,8 +23,8 @@ use Rattle.renaming.specs.Answers.{Answer, answer_of, memory_of}
 -- ---- step
 
 -- the record is of 4 bytes
-abbrev pub entered_with : List ℕ → List ℕ → State → List ℕ → Verdict
-entered_with p b s one = cond (eqb (length one) 4) (entered p b s) (verdict bad_length 0)
+abbrev pub entered_with : List ℕ → List ℕ → State → List ℕ → Result Unit Fault
+entered_with p b s one = cond (eqb (length one) 4) (entered p b s) (refused BadLength 0)
 
 abbrev pub command : List ℕ → Command
 command one = command_of (get_or one 0 0) (get_or one 1 0) (get_or one 2 0) (get_or one 3 0)
@@ -33,12 +34,12 @@ abbrev pub once : List ℕ → State → List ℕ → List ℕ → Step
 once p s b one = obey (program p) (command one) (mach_of s) (cells b)
 
 abbrev pub step_answer : Answer → Stepped
-step_answer a = record { state = a.state; refusal = a.refusal; number = 0 }
+step_answer a = record { state = a.state; verdict = faulted a.verdict }
 
 unfoldable pub stepped : List ℕ → State → List ℕ → List ℕ → Stepped
 stepped p s b one =
     let v = entered_with p b s one in
-    if_checked v (step_answer (answer_of s (once p s b one))) (record { state = s; refusal = v.refusal; number = v.number })
+    if_checked v (step_answer (answer_of s (once p s b one))) (record { state = s; verdict = v })
 
 unfoldable pub stepped_memory : List ℕ → State → List ℕ → List ℕ → List ℕ
 stepped_memory p s b one = if_checked (entered_with p b s one) (image (memory_of (cells b) (once p s b one))) b
@@ -50,20 +51,20 @@ pub record Steps (p : List ℕ) (s : State) (b one : List ℕ) (r : Stepped) (b'
 -- ---- run
 
 -- the schedule is whole records
-abbrev pub entered_run : List ℕ → List ℕ → State → List ℕ → Verdict
-entered_run p b s records = cond (eqb (length records % 4) 0) (entered p b s) (verdict bad_length 0)
+abbrev pub entered_run : List ℕ → List ℕ → State → List ℕ → Result Unit Fault
+entered_run p b s records = cond (eqb (length records % 4) 0) (entered p b s) (refused BadLength 0)
 
 -- where the run leads
 abbrev pub runs : List ℕ → State → List ℕ → List ℕ → End
 runs p s b records = run (program p) (commands records) (mach_of s) (cells b)
 
 abbrev pub ended : End → Ran
-ended e = record { state = state_of e.machine; accepted = e.accepted; issued = e.issued; refusal = e.refusal; number = 0 }
+ended e = record { state = state_of e.machine; accepted = e.accepted; issued = e.issued; verdict = faulted e.verdict }
 
 unfoldable pub ran : List ℕ → State → List ℕ → List ℕ → Ran
 ran p s b records =
     let v = entered_run p b s records in
-    if_checked v (ended (runs p s b records)) (record { state = s; accepted = 0; issued = 0; refusal = v.refusal; number = v.number })
+    if_checked v (ended (runs p s b records)) (record { state = s; accepted = 0; issued = 0; verdict = v })
 
 unfoldable pub ran_memory : List ℕ → State → List ℕ → List ℕ → List ℕ
 ran_memory p s b records = if_checked (entered_run p b s records) (image (runs p s b records).memory) b
@@ -85,8 +86,7 @@ settled d =
     record {
       state = state_of d.machine;
       rules = d.rules;
-      refusal = blocking d.machine d.memory d.machine.held;
-      number = 0;
+      verdict = faulted (blocking d.machine d.memory d.machine.held);
       address = blocked_at d.machine.held;
     }
 
@@ -94,7 +94,7 @@ unfoldable pub drained : List ℕ → State → List ℕ → Settled
 drained p s b =
     let v = entered p b s in
     if_checked v (settled (drain (mach_of s) (cells b)))
-    (record { state = s; rules = 0; refusal = v.refusal; number = v.number; address = record { 0 = 0 } })
+    (record { state = s; rules = 0; verdict = v; address = record { 0 = 0 } })
 
 unfoldable pub drained_memory : List ℕ → State → List ℕ → List ℕ
 drained_memory p s b = if_checked (entered p b s) (image (drain (mach_of s) (cells b)).memory) b

@@ -1,180 +1,121 @@
-// The rules at a place of the working table, but issue: each is read there, and then done.
-ghost use Rattle.std.specs.Prelude.{◌≡◌, ◌<◌};
-ghost use Rattle.kernel.specs.Kernel.{reached};
-ghost use Rattle.rows.specs.Rows.{address_at};
-ghost use Rattle.rows.specs.Shown.{held_of, Table, File};
-ghost use Rattle.rules.specs.Rules.{tried, apply};
-ghost use Rattle.renaming.specs.Working.{shows, Within, Stands, finishing, removing, going, loaded_of, reached_of, fallen, DoesRows, DoesBoth, Stores, Acts};
+// The rules at a place of the working table, but issue: each is judged there, and then done.
+ghost use Rattle.std.specs.Prelude.{◌≡◌, ◌<◌, length};
+ghost use Rattle.cells.specs.Cells.{cells};
+ghost use Rattle.rules.specs.Rules.{apply};
+ghost use Rattle.renaming.specs.Working.{without, Within, Does, DoesAlone, Acts};
 
-use crate::Now;
-use cells::Loaded;
+use crate::working::Working;
 use isa::InstrAddr;
-use kernel::Reached;
-use records::refusal;
+use records::Refusal;
 use rules::Rule;
-use templates::{Counter, Operand};
+use templates::Counter;
 
-fn forward(ts: &mut [[u64; 3]], c: Counter, n: usize, p: usize) -> Now
-    requires { Stands n p ts.old }
-    ensures { DoesRows (λ rs m. apply Rule.Forward p (shows c n ts.old rs) m) c n ts.old result ts.new }
-{
-    let why = judge::forward(&ts[..], n, p);
-    if why != 0 {
-        return Now {
-            counter: c,
-            count: n,
-            refusal: why,
-        };
+impl Working {
+    // The template at place p is removed.
+    fn remove(&mut self, p: usize)
+        requires { p < length self.old.held }
+        ensures { self.new ≡ without p self.old }
+    {
+        table::remove(&mut self.templates, self.count, p);
+        self.count -= 1;
     }
-    rows::fill_behind(ts, n, p);
-    Now {
-        counter: c,
-        count: n,
-        refusal: 0,
-    }
-}
 
-fn commit(ts: &[[u64; 3]], rf: &mut [u64], c: Counter, n: usize, p: usize) -> Now
-    requires { Stands n p ts.now × File rf.old }
-    ensures { DoesBoth (apply Rule.Commit p) c n ts.now rf.old result ts.now rf.new }
-{
-    let why = judge::commit(ts, &rf[..], p);
-    if why != 0 {
-        return Now {
-            counter: c,
-            count: n,
-            refusal: why,
-        };
+    fn operate(&mut self, p: usize) -> Result<(), Refusal>
+        requires { p < length self.old.held }
+        ensures { DoesAlone (apply Rule.Operate p) self.old result self.new }
+    {
+        let v = judge::operate(&self.templates, p)?;
+        table::finish(&mut self.templates, p, v);
+        Ok(())
     }
-    rows::fill_registers(rf, rows::tag(ts, p), rows::value(ts, p));
-    Now {
-        counter: c,
-        count: n,
-        refusal: 0,
-    }
-}
 
-// The template becomes a value template.
-fn finish(ts: &mut [[u64; 3]], c: Counter, n: usize, p: usize, r: Loaded) -> Now
-    requires { Stands n p ts.old }
-    ensures { DoesRows (λ rs m. tried (finishing c n p ts.old rs m) (loaded_of r)) c n ts.old result ts.new }
-{
-    match r {
-        Loaded::Is(v) => {
-            table::finish(ts, p, v);
-            Now {
-                counter: c,
-                count: n,
-                refusal: 0,
-            }
+    fn forward(&mut self, p: usize) -> Result<(), Refusal>
+        requires { p < length self.old.held }
+        ensures { DoesAlone (apply Rule.Forward p) self.old result self.new }
+    {
+        judge::forward(&self.templates, self.count, p)?;
+        rows::fill_behind(&mut self.templates, self.count, p);
+        Ok(())
+    }
+
+    fn commit(&mut self, p: usize) -> Result<(), Refusal>
+        requires { p < length self.old.held }
+        ensures { DoesAlone (apply Rule.Commit p) self.old result self.new }
+    {
+        judge::commit(&self.templates, &self.registers, p)?;
+        rows::fill_registers(
+            &mut self.registers,
+            rows::tag(&self.templates, p),
+            rows::value(&self.templates, p),
+        );
+        Ok(())
+    }
+
+    fn retire(&mut self, p: usize) -> Result<(), Refusal>
+        requires { p < length self.old.held }
+        ensures { DoesAlone (apply Rule.Retire p) self.old result self.new }
+    {
+        judge::retire(&self.templates, &self.registers, self.count, p)?;
+        self.remove(p);
+        Ok(())
+    }
+
+    fn load(&mut self, p: usize, memory: &[u8]) -> Result<(), Refusal>
+        requires { p < length self.old.held }
+        ensures { Does (apply Rule.Load p) self.old (cells memory.now) result self.new (cells memory.now) }
+    {
+        let v = judge::load(&self.templates, p, memory)?;
+        table::finish(&mut self.templates, p, v);
+        Ok(())
+    }
+
+    fn store(&mut self, p: usize, memory: &mut [u8]) -> Result<(), Refusal>
+        requires { p < length self.old.held }
+        ensures { Acts (apply Rule.Store p) self.old memory.old result self.new memory.new }
+    {
+        let (address, data) = judge::store(&self.templates, p)?;
+        kernel::write_at(memory, address, data)?;
+        self.remove(p);
+        Ok(())
+    }
+
+    fn jump(&mut self, p: usize) -> Result<(), Refusal>
+        requires { p < length self.old.held }
+        ensures { DoesAlone (apply Rule.Jump p) self.old result self.new }
+    {
+        let to = judge::jump(&self.templates, p)?;
+        self.remove(p);
+        self.counter = Counter::At(to);
+        Ok(())
+    }
+
+    fn no_jump(&mut self, p: usize) -> Result<(), Refusal>
+        requires { (p < length self.old.held) × Within self.old.held }
+        ensures { DoesAlone (apply Rule.NoJump p) self.old result self.new }
+    {
+        judge::no_jump(&self.templates, p)?;
+        let at = rows::address(&self.templates, p);
+        self.remove(p);
+        self.counter = Counter::At(InstrAddr(at.0 + 1));
+        Ok(())
+    }
+
+    pub(crate) fn apply(&mut self, rule: Rule, p: usize, memory: &mut [u8]) -> Result<(), Refusal>
+        requires { Within self.old.held }
+        ensures { Acts (apply rule p) self.old memory.old result self.new memory.new }
+    {
+        if p >= self.count {
+            return Err(Refusal::NoTemplate);
         }
-        Loaded::Refused(why) => Now {
-            counter: c,
-            count: n,
-            refusal: why,
-        },
-    }
-}
-
-// The template is removed.
-fn remove(ts: &mut [[u64; 3]], c: Counter, n: usize, p: usize, why: u8) -> Now
-    requires { Stands n p ts.old }
-    ensures { DoesRows (λ rs m. removing c n p ts.old rs m why) c n ts.old result ts.new }
-{
-    if why != 0 {
-        return Now {
-            counter: c,
-            count: n,
-            refusal: why,
-        };
-    }
-    table::remove(ts, n, p);
-    Now {
-        counter: c,
-        count: n - 1,
-        refusal: 0,
-    }
-}
-
-// The Jz is removed, and the counter is set.
-fn go_to(ts: &mut [[u64; 3]], c: Counter, n: usize, p: usize, r: Reached) -> Now
-    requires { Stands n p ts.old }
-    ensures { DoesRows (λ rs m. tried (going c n p ts.old rs m) (reached_of r)) c n ts.old result ts.new }
-{
-    match r {
-        Reached::At(ia) => {
-            table::remove(ts, n, p);
-            Now {
-                counter: Counter::At(ia),
-                count: n - 1,
-                refusal: 0,
-            }
+        match rule {
+            Rule::Operate => self.operate(p),
+            Rule::Forward => self.forward(p),
+            Rule::Commit => self.commit(p),
+            Rule::Retire => self.retire(p),
+            Rule::Load => self.load(p, &memory[..]),
+            Rule::Store => self.store(p, memory),
+            Rule::Jump => self.jump(p),
+            Rule::NoJump => self.no_jump(p),
         }
-        Reached::Refused(why) => Now {
-            counter: c,
-            count: n,
-            refusal: why,
-        },
-    }
-}
-
-fn no_jump(ts: &[[u64; 3]], p: usize) -> Reached
-    requires { (address_at ts.now p).0 < 1024 }
-    ensures { result ≡ reached (fallen p ts.now) }
-{
-    let why = judge::no_jump(ts, p);
-    if why != 0 {
-        return Reached::Refused(why);
-    }
-    let at = rows::address(ts, p);
-    Reached::At(InstrAddr(at.0 + 1))
-}
-
-fn store(ts: &[[u64; 3]], p: usize, memory: &mut [u8]) -> u8
-    ensures { Stores p ts.now memory.old result memory.new }
-{
-    if rows::kind(ts, p) != rows::STORE {
-        return refusal::OTHER_KIND;
-    }
-    if rows::memory_before(ts, p) {
-        return refusal::EARLIER_MEMORY;
-    }
-    match rows::first(ts, p) {
-        Operand::Known(u) => match rows::second(ts, p) {
-            Operand::Known(v) => kernel::write_at(memory, u, v),
-            Operand::Waits(_) => refusal::NEEDS_TAG,
-        },
-        Operand::Waits(_) => refusal::NEEDS_TAG,
-    }
-}
-
-pub(crate) fn apply(
-    ts: &mut [[u64; 3]],
-    rf: &mut [u64],
-    c: Counter,
-    n: usize,
-    rule: Rule,
-    p: usize,
-    memory: &mut [u8],
-) -> Now
-    requires { Table n ts.old × File rf.old × Within (held_of n ts.old) }
-    ensures { Acts (apply rule p) c n ts.old rf.old memory.old result ts.new rf.new memory.new }
-{
-    if p >= n {
-        return Now {
-            counter: c,
-            count: n,
-            refusal: refusal::NO_TEMPLATE,
-        };
-    }
-    match rule {
-        Rule::Operate => finish(ts, c, n, p, judge::operate(&ts[..], p)),
-        Rule::Forward => forward(ts, c, n, p),
-        Rule::Commit => commit(&ts[..], rf, c, n, p),
-        Rule::Retire => remove(ts, c, n, p, judge::retire(&ts[..], &rf[..], n, p)),
-        Rule::Load => finish(ts, c, n, p, judge::load(&ts[..], p, &memory[..])),
-        Rule::Store => remove(ts, c, n, p, store(&ts[..], p, memory)),
-        Rule::Jump => go_to(ts, c, n, p, judge::jump(&ts[..], p)),
-        Rule::NoJump => go_to(ts, c, n, p, no_jump(&ts[..], p)),
     }
 }

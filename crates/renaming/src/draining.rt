@@ -1,107 +1,69 @@
 // The drain over the working table: the oldest template first, until no rule but issue is allowed.
-ghost use Rattle.std.specs.Prelude.{◌≡◌, suc, drop};
+ghost use Rattle.std.specs.Prelude.{◌≡◌, ◌<◌, suc, drop, get_or, length};
 ghost use Rattle.cells.specs.Cells.{cells};
-ghost use Rattle.rows.specs.Rows.{row_at, itb_of, tag_at};
-ghost use Rattle.rows.specs.Shown.{held_of, regs_of, Table, File};
-ghost use Rattle.rules.specs.Drain.{drain, due, due_value, due_jump};
-ghost use Rattle.renaming.specs.Working.{shows, Stands, Inside, DrainsTo};
+ghost use Rattle.templates.specs.Machine.{nothing};
+ghost use Rattle.rules.specs.Drain.{drain, due, due_jump};
+ghost use Rattle.renaming.specs.Working.{Inside, DrainsTo};
 
-use crate::{Emptied, apply};
+use crate::working::Working;
 use rules::Rule;
-use templates::{Counter, Operand, ROOM};
+use templates::{Operand, ROOM};
 use value::Value;
 
 // Four rules for each template are enough.
 const MOST_RULES: usize = 4 * ROOM;
 
-fn due_value(ts: &[[u64; 3]], rf: &[u64], n: usize, p: usize) -> Rule
-    requires { Stands n p ts.now × File rf.now }
-    ensures { result ≡ due_value (regs_of rf.now) (drop (suc p) (held_of n ts.now)) (tag_at ts.now p) }
-{
-    if rows::held_behind(ts, n, p) {
-        return Rule::Forward;
-    }
-    if rows::held_by_register(rf, rows::tag(ts, p)) {
-        return Rule::Commit;
-    }
-    Rule::Retire
-}
-
 fn due_jump(a: Operand) -> Rule
     ensures { result ≡ due_jump a }
 {
     match a {
-        Operand::Known(v) => match v {
-            Value::Undefined => Rule::Jump,
-            Value::Word(w) => {
-                if w != 0 {
-                    return Rule::NoJump;
+        Operand::Known(Value::Word(w)) if w != 0 => Rule::NoJump,
+        _ => Rule::Jump,
+    }
+}
+
+impl Working {
+    // The one rule that can be the lowest allowed at a template, so that no other is tried.
+    fn due(&self, p: usize) -> Rule
+        requires { p < length self.now.held }
+        ensures { result ≡ due self.now.registers (drop (suc p) self.now.held) (get_or self.now.held p nothing).work }
+    {
+        match rows::kind(&self.templates, p) {
+            rows::VALUE => {
+                if rows::held_behind(&self.templates, self.count, p) {
+                    return Rule::Forward;
                 }
-                Rule::Jump
+                if rows::held_by_register(&self.registers, rows::tag(&self.templates, p)) {
+                    return Rule::Commit;
+                }
+                Rule::Retire
             }
-        },
-        Operand::Waits(_) => Rule::Jump,
-    }
-}
-
-// The one rule that can be the lowest allowed at a template, so that no other is tried.
-fn due(ts: &[[u64; 3]], rf: &[u64], n: usize, p: usize) -> Rule
-    requires { Stands n p ts.now × File rf.now }
-    ensures { result ≡ due (regs_of rf.now) (drop (suc p) (held_of n ts.now)) (itb_of (row_at ts.now p)).work }
-{
-    let kind = rows::kind(ts, p);
-    if kind == rows::VALUE {
-        return due_value(ts, rf, n, p);
-    }
-    if kind == rows::OP {
-        return Rule::Operate;
-    }
-    if kind == rows::JZ {
-        return due_jump(rows::first(ts, p));
-    }
-    if kind == rows::LOAD {
-        return Rule::Load;
-    }
-    Rule::Store
-}
-
-// Each search starts at the oldest.
-pub(crate) fn empty(
-    ts: &mut [[u64; 3]],
-    rf: &mut [u64],
-    c: Counter,
-    k: usize,
-    memory: &mut [u8],
-) -> Emptied
-    requires { Table k ts.old × File rf.old × Inside (shows c k ts.old (regs_of rf.old)) }
-    ensures { DrainsTo (drain (shows c k ts.old (regs_of rf.old)) (cells memory.old)) memory.old result ts.new rf.new memory.new }
-{
-    let mut at = c;
-    let mut held = k;
-    let mut rules: usize = 0;
-    let mut p: usize = 0;
-    while rules < MOST_RULES {
-        if p >= held {
-            return Emptied {
-                counter: at,
-                count: held,
-                rules: rules,
-            };
-        }
-        let rule = due(&ts[..], &rf[..], held, p);
-        let next = apply::apply(ts, rf, at, held, rule, p, memory);
-        at = next.counter;
-        held = next.count;
-        if next.refusal == 0 {
-            rules += 1;
-            p = 0;
-        } else {
-            p += 1;
+            rows::OP => Rule::Operate,
+            rows::JZ => due_jump(rows::first(&self.templates, p)),
+            rows::LOAD => Rule::Load,
+            _ => Rule::Store,
         }
     }
-    Emptied {
-        counter: at,
-        count: held,
-        rules: rules,
+
+    // How many rules were applied. Each search starts at the oldest, so a turn may go back: no range counts it.
+    pub(crate) fn drain(&mut self, memory: &mut [u8]) -> usize
+        requires { Inside self.old }
+        ensures { DrainsTo (drain self.old (cells memory.old)) memory.old result self.new memory.new }
+    {
+        let mut rules: usize = 0;
+        let mut p: usize = 0;
+        while rules < MOST_RULES {
+            if p >= self.count {
+                return rules;
+            }
+            match self.apply(self.due(p), p, memory) {
+                Ok(()) => {
+                    rules += 1;
+                    p = 0;
+                }
+                Err(_) => p += 1,
+            }
+        }
+        rules
     }
 }

@@ -6,11 +6,11 @@ ghost use Rattle.isa.specs.Program.{program as instructions};
 ghost use Rattle.templates.specs.Templates.{contents};
 ghost use Rattle.rows.specs.Shown.{held_of, regs_of, Table, File};
 ghost use Rattle.rules.specs.Rules.{is_fresh, tag_suits, work_of, counter_after, issue_at, issue};
-ghost use Rattle.renaming.specs.Working.{Renames, DoesBoth};
+ghost use Rattle.renaming.specs.Working.{Renames, DoesAlone};
 
-use crate::Now;
-use isa::{Instr, InstrAddr, Reading, Reg, Tag};
-use records::refusal;
+use crate::working::Working;
+use isa::{Instr, InstrAddr, Reg, Tag};
+use records::Refusal;
 use templates::{Counter, LAST_TAG, Operand, ROOM, Template, Work};
 use value::Value;
 
@@ -26,12 +26,8 @@ fn counter_after(ia: InstrAddr, i: Instr) -> Counter
 {
     let next = InstrAddr(ia.0 + 1);
     match i {
-        Instr::Loadc(_, _) => Counter::At(next),
-        Instr::Loadpc(_) => Counter::At(next),
-        Instr::Op(_, _, _, _) => Counter::At(next),
         Instr::Jz(_, _) => Counter::Stall,
-        Instr::Load(_, _) => Counter::At(next),
-        Instr::Store(_, _) => Counter::At(next),
+        _ => Counter::At(next),
     }
 }
 
@@ -40,20 +36,15 @@ fn is_fresh(ts: &[[u64; 3]], n: usize, t: Tag) -> bool
     requires { Table n ts.now }
     ensures { result ≡ is_fresh t (held_of n ts.now) }
 {
-    let unused = !rows::produced(ts, n, t);
-    (0 < t.0) & ((t.0 <= LAST_TAG) & unused)
+    (0 < t.0) & ((t.0 <= LAST_TAG) & !rows::produced(ts, n, t))
 }
 
 fn tag_suits(fresh: bool, t: Tag, i: Instr) -> bool
     ensures { result ≡ tag_suits fresh t i }
 {
     match i {
-        Instr::Loadc(_, _) => fresh,
-        Instr::Loadpc(_) => fresh,
-        Instr::Op(_, _, _, _) => fresh,
-        Instr::Jz(_, _) => t.0 == 0,
-        Instr::Load(_, _) => fresh,
-        Instr::Store(_, _) => t.0 == 0,
+        Instr::Jz(_, _) | Instr::Store(_, _) => t.0 == 0,
+        Instr::Loadc(_, _) | Instr::Loadpc(_) | Instr::Op(_, _, _, _) | Instr::Load(_, _) => fresh,
     }
 }
 
@@ -86,71 +77,38 @@ fn rename(rf: &mut [u64], t: Tag, i: Instr)
     }
 }
 
-// Operands are copied before the destination is renamed.
-fn issue_at(
-    ts: &mut [[u64; 3]],
-    rf: &mut [u64],
-    c: Counter,
-    n: usize,
-    t: Tag,
-    ia: InstrAddr,
-    i: Instr,
-) -> Now
-    requires { Table n ts.old × File rf.old × (ia.0 < 1024) }
-    ensures { DoesBoth (λ σ m. issue_at t σ m ia i) c n ts.old rf.old result ts.new rf.new }
-{
-    if n >= ROOM {
-        return Now {
-            counter: c,
-            count: n,
-            refusal: refusal::FULL,
-        };
+impl Working {
+    // Operands are copied before the destination is renamed.
+    fn issue_at(&mut self, t: Tag, ia: InstrAddr, i: Instr) -> Result<(), Refusal>
+        requires { ia.0 < 1024 }
+        ensures { DoesAlone (λ σ m. issue_at t σ m ia i) self.old result self.new }
+    {
+        if self.count >= ROOM {
+            return Err(Refusal::Full);
+        }
+        if !tag_suits(is_fresh(&self.templates, self.count, t), t, i) {
+            return Err(Refusal::BadTag);
+        }
+        let work = work_for(&self.registers, ia, t, i);
+        rows::put(
+            &mut self.templates,
+            self.count,
+            Template { address: ia, work },
+        );
+        rename(&mut self.registers, t, i);
+        self.counter = counter_after(ia, i);
+        self.count += 1;
+        Ok(())
     }
-    if !tag_suits(is_fresh(&ts[..], n, t), t, i) {
-        return Now {
-            counter: c,
-            count: n,
-            refusal: refusal::BAD_TAG,
-        };
-    }
-    let w = work_for(&rf[..], ia, t, i);
-    let x = Template {
-        address: ia,
-        work: w,
-    };
-    rows::put(ts, n, x);
-    rename(rf, t, i);
-    Now {
-        counter: counter_after(ia, i),
-        count: n + 1,
-        refusal: 0,
-    }
-}
 
-pub(crate) fn issue(
-    ts: &mut [[u64; 3]],
-    rf: &mut [u64],
-    c: Counter,
-    n: usize,
-    program: &[u8],
-    t: Tag,
-) -> Now
-    requires { Table n ts.old × File rf.old × (scan_of program.now ≡ accepted) }
-    ensures { DoesBoth (issue (instructions program.now) t) c n ts.old rf.old result ts.new rf.new }
-{
-    match c {
-        Counter::At(ia) => match isa::decode(program, ia) {
-            Reading::Is(i) => issue_at(ts, rf, c, n, t, ia, i),
-            Reading::Refused(why) => Now {
-                counter: c,
-                count: n,
-                refusal: why,
-            },
-        },
-        Counter::Stall => Now {
-            counter: c,
-            count: n,
-            refusal: refusal::STALLED,
-        },
+    pub(crate) fn issue(&mut self, program: &[u8], t: Tag) -> Result<(), Refusal>
+        requires { scan_of program.now ≡ accepted }
+        ensures { DoesAlone (issue (instructions program.now) t) self.old result self.new }
+    {
+        let Counter::At(ia) = self.counter else {
+            return Err(Refusal::Stalled);
+        };
+        let i = isa::decode(program, ia)?;
+        self.issue_at(t, ia, i)
     }
 }
