@@ -1,4 +1,5 @@
 -- Laws that belong to no one function.
+pub mod Files
 pub mod Loading
 pub mod Telling
 pub mod Writing

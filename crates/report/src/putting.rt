@@ -1,60 +1,55 @@
-// The lines that say how a drain ended and what a machine holds, put into a lent buffer.
-ghost use Rattle.std.specs.Prelude.{◌≤◌, length};
+// The lines that say how a drain ended and what a machine holds, put on a page.
+ghost use Rattle.std.specs.Prelude.{◌≡◌, ◌≤◌, length};
 ghost use Rattle.cells.specs.Cells.{cells};
 ghost use Rattle.text.specs.Text.{numbered};
-ghost use Rattle.lines.specs.Lines.{cell_text, Puts};
-ghost use Rattle.report.specs.Report.{end_of, contents_of};
+ghost use Rattle.lines.specs.Lines.{cell_text, AddsWithin};
+ghost use Rattle.report.specs.Report.{refusal_of, end_text, contents_text};
 
-use cells::Loaded;
-use isa::{DataAddr, InstrAddr, REGISTERS};
-use templates::{Counter, Register};
+use isa::DataAddr;
+use records::Fault;
+use renaming::Settled;
+use templates::State;
+use text::Page;
 
-// Blocked, if templates remain.
-pub(crate) fn put_end(
-    out: &mut [u8],
-    at: usize,
-    count: usize,
-    rules: usize,
-    refusal: u8,
-    address: InstrAddr,
-) -> usize
-    ensures { Puts out.old at (end_of count rules refusal address) 53 result out.new }
+// The number of what was refused, 0 if nothing was.
+pub(crate) fn refusal_of(verdict: Result<(), Fault>) -> u8
+    ensures { result ≡ refusal_of verdict }
 {
-    if count == 0 {
-        return lines::put_drained(out, at, rules);
+    match verdict {
+        Ok(()) => 0,
+        Err(fault) => fault.refusal.number(),
     }
-    lines::put_blocked(out, at, address, refusal, rules)
 }
 
-fn put_cells(out: &mut [u8], at: usize, memory: &[u8]) -> usize
-    requires { length memory.now ≤ 8192 }
-    ensures { Puts out.old at (numbered cell_text 0 (cells memory.now)) 23552 result out.new }
+// Blocked, if templates remain.
+pub(crate) fn put_end(page: &mut Page, end: &Settled)
+    ensures { AddsWithin page.old (end_text end.now) 53 page.new }
 {
-    let mut to = at;
-    let mut i: u32 = 0;
-    loop {
-        match cells::load(memory, DataAddr(i)) {
-            Loaded::Is(v) => {
-                to = lines::put_value(out, to, b"m", i, v);
-                i += 1;
-            }
-            Loaded::Refused(_) => return to,
-        }
+    let count = end.state.count;
+    if count == 0 {
+        return lines::put_drained(page, end.rules);
+    }
+    lines::put_blocked(page, end.address, refusal_of(end.verdict), end.rules);
+}
+
+fn put_cells(page: &mut Page, memory: &[u8])
+    requires { length memory.now ≤ 8192 }
+    ensures { AddsWithin page.old (numbered cell_text 0 (cells memory.now)) 23552 page.new }
+{
+    for i in 0..(memory.len() / 8) as u32 {
+        let Ok(v) = cells::load(memory, DataAddr(i)) else {
+            return;
+        };
+        lines::put_value(page, b"m", i, v);
     }
 }
 
 // The counter in at most 14 bytes, then registers and cells that aren't undefined, 23 bytes each at most.
-pub(crate) fn put_contents(
-    out: &mut [u8],
-    at: usize,
-    c: Counter,
-    rs: [Register; REGISTERS],
-    memory: &[u8],
-) -> usize
+pub(crate) fn put_contents(page: &mut Page, state: &State, memory: &[u8])
     requires { length memory.now ≤ 8192 }
-    ensures { Puts out.old at (contents_of c rs (cells memory.now)) 24302 result out.new }
+    ensures { AddsWithin page.old (contents_text state.now (cells memory.now)) 24302 page.new }
 {
-    let registers = lines::put_counter(out, at, c);
-    let cells = lines::put_registers(out, registers, rs);
-    put_cells(out, cells, memory)
+    lines::put_counter(page, state.counter);
+    lines::put_registers(page, state.registers);
+    put_cells(page, memory);
 }

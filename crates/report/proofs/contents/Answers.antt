@@ -1,5 +1,5 @@
 -- `report::contents` meets its contract: nothing is written, or what the machine holds.
-use Rattle.report.specs.Report.{contents_text}
+use borrow.Author.Rules.{rules}
 use Rattle.report.proofs.Writing.{shows-none, shows_few, shows-all}
 use Rattle.report.proofs.contents.Goals as goal
 
@@ -10,5 +10,5 @@ pub put_contents-requires : goal.put_contents-requires
 put_contents-requires c = shows_few c.args.state c.args.memory.now c.args.out.now (rw (← c.is_whole.ensures) c.if-not-is_whole-out.false)
 
 pub returns : goal.returns
-unfolding contents_text
-returns c = shows-all c.args.state c.args.memory.now c.args.out.now (rw (← c.is_whole.ensures) c.if-not-is_whole-out.false) c.put_contents.ensures
+returns c =
+    shows-all c.args.state c.args.memory.now c.args.out.now (rw (← c.is_whole.ensures) c.if-not-is_whole-out.false) c.put_contents.ensures.puts (search rules)
