@@ -1,7 +1,7 @@
 -- Demand 3, for any program whose instructions are well formed, any memory and any schedule.
 use Prim.Native.Nat.{ℕ, zero, suc, ◌+◌}
 use native.Mathlib.Omega.{arith}
-use mathlib.Core.Path.{◌≡◌, refl, sym, ap, subst, ◌∙◌}
+use mathlib.Core.Path.{◌≡◌, refl, sym, ap, ◌∙◌}
 use mathlib.Core.List.{List, map}
 use lib.ListN.{length, take, replicate}
 use Rattle.value.specs.declared.Value.{Value}
@@ -65,7 +65,7 @@ with-run n x (stopped ia why l) σ m c a =
     record {
       within = omega arith;
       went = λ e. absurd (omega arith);
-      halted = λ _. rw (c.0, c.1, c.2) a;
+      halted = λ _. (why, c.1, rw (c.0, c.2) a);
     }
 
 -- ---- the whole
@@ -93,7 +93,7 @@ module _ (prog : List Instr) (formed : AllFormed prog) (m : List Value) (cs : Li
       → Agrees stepped σ m'
   continued_agrees vs σ m' e f =
       let g = on_accepted _ e (continued_keeps (length prog) vs here.machine here.memory reached.1) in
-      subst (λ (o : Run (List Register)). Agrees o σ m') (g.0 ∙ reached.0) (stuck_agrees (length prog) σ m' g.1 f)
+      rw (← (g.0 ∙ reached.0)) (stuck_agrees (length prog) σ m' g.1 f)
 
   pub demand_3 : Demand3 prog m cs
   demand_3 =

@@ -1,7 +1,7 @@
--- Demand 2's refusals: a command is accepted exactly when all its conditions hold, and refused with n exactly when the first that fails has the number n.
+-- Demand 2's refusals: a command is accepted exactly when all its conditions hold, and refused with n exactly when the first that fails has the refusal n.
 use Prim.Native.Nat.{ℕ, zero, suc, ◌≤◌}
 use native.Mathlib.Omega.{arith}
-use mathlib.Core.Path.{◌≡◌, refl, sym, ap, subst, ◌∙◌}
+use mathlib.Core.Path.{◌≡◌, refl, sym, ap, ◌∙◌}
 use mathlib.Core.Logic.{◌↔◌, inl, inr}
 use mathlib.Core.Bool.{Bool, true, false, cond, ◌||◌, not, true≢false}
 use mathlib.Core.List.{List, [], ◌∷◌, ◌++◌}
@@ -9,6 +9,7 @@ use mathlib.Core.Option.{Option, none, some}
 use lib.Dec.{eqb, ltb, leb}
 use lib.ListN.{length, get_or, take, drop, get_elem?}
 use borrow.Author.Tests.{leb-true, leb-false, lt-ltb, le-ltb}
+use Rattle.records.specs.declared.Refusal.{Refusal}
 use Rattle.value.specs.declared.Value.{Value}
 use Rattle.value.specs.declared.Value.TheVariants.{Undefined, Word}
 use Rattle.isa.specs.declared.InstrAddr.{InstrAddr}
@@ -29,7 +30,7 @@ use Rattle.sound.proofs.Basics.{by_test}
 use Rattle.rules.specs.declared.Rule.{Rule}
 use Rattle.rules.specs.declared.Command.{Command}
 use Rattle.rules.specs.declared.Command.TheVariants.{Malformed, Issue, Apply}
-use Rattle.records.specs.Refusal.{no_instruction, stalled, full, bad_tag, needs_tag, is_undefined, outside}
+use Rattle.records.specs.declared.Refusal.TheVariants.{NoInstruction, Stalled, Full, BadTag, NeedsTag, IsUndefined, Outside}
 use Rattle.rules.specs.Rules.{Step, accepted, refused, holding, tried, known, becomes, go_to, rule, apply, tag_ok, issue_at, issue_from, issue}
 use Rattle.rules.specs.Schedule.{obey}
 use Rattle.records.proofs.Leading.{found_inside}
@@ -37,12 +38,12 @@ use Rattle.demands.specs.Conditions.{Condition, ◌else◌, AllHold, FirstFails,
 
 -- ---- conditions in order
 
-pub never_both : (cs : List Condition) (n : ℕ) → AllHold cs → FirstFails n cs → ⊥
+pub never_both : (cs : List Condition) (n : Refusal) → AllHold cs → FirstFails n cs → ⊥
 never_both [] n h f = f
 never_both (c ∷ cs) n h (inl f) = true≢false (sym h.0 ∙ f.0)
 never_both (c ∷ cs) n h (inr f) = never_both cs n h.1 f.1
 
-pub only_one : (cs : List Condition) (n k : ℕ) → FirstFails n cs → FirstFails k cs → n ≡ k
+pub only_one : (cs : List Condition) (n k : Refusal) → FirstFails n cs → FirstFails k cs → n ≡ k
 only_one [] n k f g = absurd f
 only_one (c ∷ cs) n k (inl f) (inl g) = sym f.1 ∙ g.1
 only_one (c ∷ cs) n k (inl f) (inr g) = absurd (true≢false (sym g.0 ∙ f.0))
@@ -60,24 +61,24 @@ record Said (s : Step) (cs : List Condition) : Type 0 where
 met : {σ : Mach} {m : List Value} → Said (accepted σ m) []
 met = record { says = tt }
 
-missed : {n : ℕ} {cs : List Condition} → Said (refused n) ((false else n) ∷ cs)
+missed : {n : Refusal} {cs : List Condition} → Said (refused n) ((false else n) ∷ cs)
 missed = record { says = inl (refl, refl) }
 
 one_more : (s : Step) (c : Condition) (cs : List Condition) → c.holds ≡ true → Says s cs → Says s (c ∷ cs)
 one_more (accepted σ m) c cs e h = (e, h)
 one_more (refused k) c cs e h = inr (e, h)
 
-given : {s : Step} {b : Bool} {n : ℕ} {cs : List Condition} → b ≡ true → Said s cs → Said s ((b else n) ∷ cs)
+given : {s : Step} {b : Bool} {n : Refusal} {cs : List Condition} → b ≡ true → Said s cs → Said s ((b else n) ∷ cs)
 given {s} {b} {n} {cs} e h = record { says = one_more s (b else n) cs e h.says }
 
-passed : {s : Step} {n : ℕ} {cs : List Condition} → Said s cs → Said s ((true else n) ∷ cs)
+passed : {s : Step} {n : Refusal} {cs : List Condition} → Said s cs → Said s ((true else n) ∷ cs)
 passed h = given refl h
 
-tested : {s : Step} (b : Bool) {n : ℕ} {cs : List Condition} → Said s cs → Said (cond b s (refused n)) ((b else n) ∷ cs)
+tested : {s : Step} (b : Bool) {n : Refusal} {cs : List Condition} → Said s cs → Said (cond b s (refused n)) ((b else n) ∷ cs)
 tested true h = passed h
 tested false h = missed
 
-tested_not : {s : Step} (b : Bool) {n : ℕ} {cs : List Condition} → Said s cs → Said (cond b (refused n) s) ((not b else n) ∷ cs)
+tested_not : {s : Step} (b : Bool) {n : Refusal} {cs : List Condition} → Said s cs → Said (cond b (refused n) s) ((not b else n) ∷ cs)
 tested_not true h = missed
 tested_not false h = passed h
 
@@ -85,7 +86,7 @@ tested_not false h = passed h
 
 pub is_past : {A : Type 0} (xs : List A) (k : ℕ) → get_elem? xs k ≡ none → length xs ≤ k
 is_past [] k e = omega arith
-is_past (y ∷ xs) zero e = let z : ◌≡◌ {A = ℕ} 0 1 = cc in absurd (omega arith)
+is_past (y ∷ xs) zero e = absurd (cc)
 is_past (y ∷ xs) (suc k) e = let l = is_past xs k e in omega (arith, l)
 
 -- ---- the rules but issue
@@ -127,13 +128,13 @@ module _ (σ : Mach) (m : List Value) (pre : List Itb) (a : InstrAddr) (post : L
   -- ---- memory
 
   cell_said : (t : Tag) (w : ℕ) (o : Option Value) → get_elem? m w ≡ o
-      → Said (tried (λ v. becomes σ m pre a post (Done t v)) (inside o)) ((ltb w (length m) else outside) ∷ [])
+      → Said (tried (λ v. becomes σ m pre a post (Done t v)) (inside o)) ((ltb w (length m) else Outside) ∷ [])
   cell_said t w none e = rw (le-ltb w (length m) (is_past m w e)) missed
   cell_said t w (some v) e = given (lt-ltb w (length m) (found_inside m w e)) met
 
   loaded_said : (t : Tag) (x : Operand)
       → Said (known (λ u. tried (λ v. becomes σ m pre a post (Done t v)) (read_at m u)) x)
-      ((is_known x else needs_tag) ∷ (is_defined (value_in x) else is_undefined) ∷ (is_within m (value_in x) else outside) ∷ [])
+      ((is_known x else NeedsTag) ∷ (is_defined (value_in x) else IsUndefined) ∷ (is_within m (value_in x) else Outside) ∷ [])
   unfolding load_from
   loaded_said t (Known Undefined) = passed missed
   loaded_said t (Known (Word w)) = passed (passed (cell_said t w (get_elem? m w) refl))
@@ -148,11 +149,11 @@ module _ (σ : Mach) (m : List Value) (pre : List Itb) (a : InstrAddr) (post : L
 
   written_said : (x v : Value)
       → Said (tried (λ m'. accepted (holding σ (pre ++ post)) m') (write_at m x v))
-      ((is_defined x else is_undefined) ∷ (is_within m x else outside) ∷ [])
+      ((is_defined x else IsUndefined) ∷ (is_within m x else Outside) ∷ [])
   written_said Undefined v = missed
   written_said (Word w) v =
       passed
-      (by_test (λ r. Said (tried (λ m'. accepted (holding σ (pre ++ post)) m') r) ((ltb w (length m) else outside) ∷ [])) (ltb w (length m))
+      (by_test (λ r. Said (tried (λ m'. accepted (holding σ (pre ++ post)) m') r) ((ltb w (length m) else Outside) ∷ [])) (ltb w (length m))
       (λ l. given l met) (λ l. rw l missed))
 
   store_said : (w : Work) → Here Rule.Store w
@@ -167,7 +168,7 @@ module _ (σ : Mach) (m : List Value) (pre : List Itb) (a : InstrAddr) (post : L
   -- ---- a Jz
 
   target_said : (y : Operand)
-      → Said (known (λ v. tried (go_to σ m pre a post) (target v)) y) ((is_known y else needs_tag) ∷ (is_defined (value_in y) else is_undefined) ∷ [])
+      → Said (known (λ v. tried (go_to σ m pre a post) (target v)) y) ((is_known y else NeedsTag) ∷ (is_defined (value_in y) else IsUndefined) ∷ [])
   target_said (Known Undefined) = passed missed
   target_said (Known (Word w)) = passed (passed met)
   target_said (Waits s) = missed
@@ -205,20 +206,20 @@ module _ (σ : Mach) (m : List Value) (pre : List Itb) (a : InstrAddr) (post : L
 module _ (prog : List Instr) (σ : Mach) (m : List Value) where
   fetched_said : (t : Tag) (ia : InstrAddr) (o : Option Instr)
       → Said (tried (issue_at t σ m ia) (present o))
-      ((is_there o else no_instruction) ∷ (ltb (length σ.held) room else full) ∷ (tag_fits σ.held t o else bad_tag) ∷ [])
+      ((is_there o else NoInstruction) ∷ (ltb (length σ.held) room else Full) ∷ (tag_fits σ.held t o else BadTag) ∷ [])
   fetched_said t ia none = missed
   fetched_said t ia (some i) =
       passed
-      (by_test (λ s. Said s ((ltb (length σ.held) room else full) ∷ (tag_ok σ.held t i else bad_tag) ∷ [])) (leb room (length σ.held))
+      (by_test (λ s. Said s ((ltb (length σ.held) room else Full) ∷ (tag_ok σ.held t i else BadTag) ∷ [])) (leb room (length σ.held))
       (λ h. rw (le-ltb (length σ.held) room (leb-true room (length σ.held) h)) missed)
       (λ h. given (lt-ltb (length σ.held) room (leb-false room (length σ.held) h)) (tested (tag_ok σ.held t i) met)))
 
   issue_said : (t : Tag) (pc : Counter)
       → Said (issue_from t σ m prog pc)
-      ((is_address pc else stalled)
-      ∷ (is_there (instr_at prog pc) else no_instruction)
-      ∷ (ltb (length σ.held) room else full)
-      ∷ (tag_fits σ.held t (instr_at prog pc) else bad_tag)
+      ((is_address pc else Stalled)
+      ∷ (is_there (instr_at prog pc) else NoInstruction)
+      ∷ (ltb (length σ.held) room else Full)
+      ∷ (tag_fits σ.held t (instr_at prog pc) else BadTag)
       ∷ [])
   issue_said t (At ia) = passed (fetched_said t ia (get_elem? prog ia.0))
   issue_said t Stall = missed
@@ -234,9 +235,9 @@ module _ (prog : List Instr) (σ : Mach) (m : List Value) where
   -- ---- demand 2's refusals
 
   module _ (c : Command) where
-    -- each number is given exactly when its condition is the first to fail
-    pub refused-first : (n : ℕ) → (obey prog c σ m ≡ refused n) ↔ FirstFails n (conditions prog c σ m)
-    refused-first n = (λ e. subst (λ s. Says s (conditions prog c σ m)) e (obey_said c).says, back (obey prog c σ m) (obey_said c).says)
+    -- each refusal is given exactly when its condition is the first to fail
+    pub refused-first : (n : Refusal) → (obey prog c σ m ≡ refused n) ↔ FirstFails n (conditions prog c σ m)
+    refused-first n = (λ e. rw e at (obey_said c).says, back (obey prog c σ m) (obey_said c).says)
       where
         back : (s : Step) → Says s (conditions prog c σ m) → FirstFails n (conditions prog c σ m) → s ≡ refused n
         back (accepted σ' m') h f = absurd (never_both (conditions prog c σ m) n h f)
@@ -244,7 +245,7 @@ module _ (prog : List Instr) (σ : Mach) (m : List Value) where
 
     -- and none when all hold
     pub accepted-all : ((σ' : Mach) × (m' : List Value) × (obey prog c σ m ≡ accepted σ' m')) ↔ AllHold (conditions prog c σ m)
-    accepted-all = (λ e. subst (λ s. Says s (conditions prog c σ m)) e.2 (obey_said c).says, back (obey prog c σ m) (obey_said c).says)
+    accepted-all = (λ e. rw e.2 at (obey_said c).says, back (obey prog c σ m) (obey_said c).says)
       where
         back : (s : Step) → Says s (conditions prog c σ m) → AllHold (conditions prog c σ m) → (σ' : Mach) × (m' : List Value) × (s ≡ accepted σ' m')
         back (accepted σ' m') h a = (σ', m', refl)

@@ -7,9 +7,9 @@ use lib.Dec.{eqb}
 use lib.ListN.{length, set}
 use lib.Seq.{append_snoc}
 use borrow.Author.Tests.{lt-ltb}
-use Rattle.records.specs.Refusal.{earlier_memory, other_way}
-use Rattle.records.specs.Try.{Try, got, fails}
-use Rattle.records.proofs.Basics.{got_not_fails}
+use Rattle.records.specs.declared.Refusal.TheVariants.{EarlierMemory, OtherWay}
+use Rattle.std.specs.Prelude.{Result, Ok, Err}
+use Rattle.records.specs.declared.Refusal.{Refusal}
 use Rattle.value.specs.declared.Value.{Value}
 use Rattle.value.specs.declared.Value.TheVariants.{Undefined, Word}
 use Rattle.value.specs.Operation.{result_of}
@@ -43,12 +43,12 @@ use Rattle.demands.proofs.Settling.{Stands, Way, itself, put, put_work, put_regs
 
 -- a branch that is the same whatever the target stands for
 module _ (a : InstrAddr) (ia : InstrAddr) (e : Stands) where
-  not_taken : (zero : Bool) (t : Tag) → cond zero (target Undefined) (got (next a)) ≡ got ia → cond zero (targeted (e t)) (got (next a)) ≡ got ia
-  not_taken true t h = got_not_fails h
+  not_taken : (zero : Bool) (t : Tag) → cond zero (target Undefined) (Ok (next a)) ≡ Ok ia → cond zero (targeted (e t)) (Ok (next a)) ≡ Ok ia
+  not_taken true t h = absurd (cc)
   not_taken false t h = h
 
-  branched_to : (u : Value) (y : Operand) → ((f : Env) → branch a u (resolve f y) ≡ got ia) → branched a (Known u) (put e y) ≡ got ia
-  branched_to Undefined y b = got_not_fails (b nothing)
+  branched_to : (u : Value) (y : Operand) → ((f : Env) → branch a u (resolve f y) ≡ Ok ia) → branched a (Known u) (put e y) ≡ Ok ia
+  branched_to Undefined y b = absurd (cc (b nothing))
   branched_to (Word w) (Known v) b = b nothing
   branched_to (Word w) (Waits t) b = not_taken (eqb w 0) t (b nothing)
 
@@ -82,7 +82,7 @@ module _ (k : ℕ) (σ : Mach) (m : List Value) (pre : List Itb) (a : InstrAddr)
   settled-cases : Cases σ m pre a post (λ w r. Was w → OnStep (λ σ' m'. settled σ' m' ≡ settled (holding σ (pre ++ ITB a w ∷ post)) m) r)
   settled-cases =
       record {
-        refuses = λ w n e s. tt;
+        refuses = λ w n s. tt;
         operates = λ t n u v s. same (Op t n (Known u) (Known v)) _ _ (whole (Done t (result_of n u v))) refl;
         forwards = λ t v h s.
             ap (close σ.registers) (settle-append pre (ITB a (Done t v) ∷ fill_all t v post) (outset σ.counter m)
@@ -150,24 +150,24 @@ module _ (σ : Mach) (m : List Value) where
   way pre = record { tags = itself; counter = σ.counter; kept = pre; memory = m }
 
   module _ (pre : List Itb) (a : InstrAddr) (post : List Itb) where
-    load_kept : (t : Tag) (o : Way) (earlier : Bool) (r : Try Value)
-        → Refused (cond earlier (refused earlier_memory) (tried (λ v. becomes σ m pre a post (Done t v)) r))
-        → either (λ v. bound t v (way pre)) o (cond earlier (fails earlier_memory) r) ≡ o
+    load_kept : (t : Tag) (o : Way) (earlier : Bool) (r : Result Value Refusal)
+        → Refused (cond earlier (refused EarlierMemory) (tried (λ v. becomes σ m pre a post (Done t v)) r))
+        → either (λ v. bound t v (way pre)) o (cond earlier (Err EarlierMemory) r) ≡ o
     load_kept t o true r h = refl
-    load_kept t o false (got v) h = absurd h
-    load_kept t o false (fails n) h = refl
+    load_kept t o false (Ok v) h = absurd h
+    load_kept t o false (Err n) h = refl
 
-    store_kept : (o : Way) (earlier : Bool) (r : Try (List Value))
-        → Refused (cond earlier (refused earlier_memory) (tried (λ m'. accepted (holding σ (pre ++ post)) m') r))
-        → either (λ m'. stored m' (way pre)) o (cond earlier (fails earlier_memory) r) ≡ o
+    store_kept : (o : Way) (earlier : Bool) (r : Result (List Value) Refusal)
+        → Refused (cond earlier (refused EarlierMemory) (tried (λ m'. accepted (holding σ (pre ++ post)) m') r))
+        → either (λ m'. stored m' (way pre)) o (cond earlier (Err EarlierMemory) r) ≡ o
     store_kept o true r h = refl
-    store_kept o false (got m') h = absurd h
-    store_kept o false (fails n) h = refl
+    store_kept o false (Ok m') h = absurd h
+    store_kept o false (Err n) h = refl
 
     jz_kept : (o : Way) (zero : Bool) (y : Operand)
-        → Refused (cond zero (known (λ v. tried (go_to σ m pre a post) (target v)) y) (refused other_way))
-        → Refused (cond zero (refused other_way) (go_to σ m pre a post (next a)))
-        → either (λ ia. turned ia (way pre)) o (cond zero (targeted y) (got (next a))) ≡ o
+        → Refused (cond zero (known (λ v. tried (go_to σ m pre a post) (target v)) y) (refused OtherWay))
+        → Refused (cond zero (refused OtherWay) (go_to σ m pre a post (next a)))
+        → either (λ ia. turned ia (way pre)) o (cond zero (targeted y) (Ok (next a))) ≡ o
     jz_kept o true (Known (Word n)) jump no_jump = absurd jump
     jz_kept o true (Known Undefined) jump no_jump = refl
     jz_kept o true (Waits t) jump no_jump = refl

@@ -1,12 +1,15 @@
 -- The public drain of a state that passes the checks ends where nothing but issue is allowed, and names what blocks it.
 use Prim.Native.Nat.{ℕ, suc, ◌/◌}
 use native.Mathlib.Omega.{arith}
-use mathlib.Core.Path.{◌≡◌, refl, sym, ap, subst, ◌∙◌}
+use mathlib.Core.Path.{◌≡◌, refl, sym, ap, ◌∙◌}
 use mathlib.Core.Logic.{◌⊎◌, inl, inr}
-use mathlib.Core.List.{List, [], ◌∷◌}
+use mathlib.Core.List.{List, []}
 use lib.Dec.{ltb}
 use lib.ListN.{length, take, drop, get_or}
-use Rattle.records.specs.Refusal.{no_template, is_undefined, outside}
+use Rattle.std.specs.Prelude.{Err}
+use Rattle.records.specs.declared.Refusal.{Refusal}
+use Rattle.records.specs.Refusal.{fault, faulted}
+use Rattle.records.specs.Scan as Scan
 use Rattle.value.specs.declared.Value.{Value}
 use Rattle.value.specs.declared.Value.TheVariants.{Undefined, Word}
 use Rattle.cells.specs.Cells.{cells, image}
@@ -32,7 +35,7 @@ use Rattle.renaming.proofs.Fitting.{entered-fit}
 use Rattle.inorder.specs.declared.Register.{Register}
 use Rattle.rules.specs.Moves.{move, Refused, Stuck}
 use Rattle.demands.specs.Agrees.{Blocked, Agrees}
-use Rattle.demands.specs.Conditions.{Condition, ◌else◌, FirstFails, value_in, is_within, needs}
+use Rattle.demands.specs.Conditions.{value_in, is_within, needs}
 use Rattle.demands.specs.DrainAnswers.{DrainAnswers}
 use Rattle.demands.proofs.Flush.{outcome}
 use Rattle.demands.proofs.Conditions.{refused-first}
@@ -58,12 +61,12 @@ module _ (σ : Mach) (m m' : List Value) (e : length m ≡ length m') where
   needs_alike pre post w Rule.Jump = refl
   needs_alike pre post w Rule.NoJump = refl
 
-  refused_alike : (r : Rule) (k n : ℕ) → apply r k σ m ≡ refused n → apply r k σ m' ≡ refused n
+  refused_alike : (r : Rule) (k : ℕ) (n : Refusal) → apply r k σ m ≡ refused n → apply r k σ m' ≡ refused n
   unfolding obey
   refused_alike r k n h =
       let same = needs_alike (take k σ.held) (drop (suc k) σ.held) (get_or σ.held k nothing).work r in
       (refused-first [] σ m' (Apply r k) n).1
-      (subst (λ (cs : List Condition). FirstFails n ((ltb k (length σ.held) else no_template) ∷ cs)) same ((refused-first [] σ m (Apply r k) n).0 h))
+      (rw same at (refused-first [] σ m (Apply r k) n).0 h)
 
   stuck_alike : Stuck σ m → Stuck σ m'
   stuck_alike f v = by (move v σ m) refl (f v)
@@ -88,24 +91,29 @@ module _ (k : ℕ) (σ : Mach) (m : List Value) (s : Sound k σ) where
   halts = stuck_alike d.machine d.memory after (sym as_long) (drain_stuck σ m s.few)
 
   abbrev Ends : Type 0
-  Ends = (((settled d).state.count ≡ 0) × ((settled d).refusal ≡ 0)) ⊎ Blocked (settled d).address (settled d).refusal after d.machine after
+  Ends = (((settled d).state.count ≡ 0) × ((settled d).verdict ≡ Scan.accepted))
+      ⊎ ((why : Refusal) × ((settled d).verdict ≡ Err (fault why 0)) × Blocked (settled d).address why after d.machine after)
 
   says : (o : Run (List Register)) → Agrees o d.machine after → Ends
-  says (going rf ia l) g = inl (ap (λ (ts : List Itb). length ts) g.empty, ap (blocking d.machine d.memory) g.empty)
+  says (going rf ia l) g = inl (ap (λ (ts : List Itb). length ts) g.empty, ap (λ (ts : List Itb). faulted (blocking d.machine d.memory ts)) g.empty)
   says (stopped ia why l) g =
-      let number : (settled d).refusal ≡ why =
-      ap (blocking d.machine d.memory) g.held
-      ∙ ap refusal (refused_alike d.machine after d.memory as_long (asks g.oldest.work) 0 why g.refusal) in
-      inr (record {
-        oldest = g.oldest;
-        later = g.later;
-        held = g.held;
-        kind = g.kind;
-        address = sym (ap blocked_at g.held);
-        refusal = g.refusal ∙ ap refused (sym number);
-        reason = subst (λ (n : ℕ). (n ≡ is_undefined) ⊎ (n ≡ outside)) (sym number) g.reason;
-        memory = refl;
-      })
+      let verdict : (settled d).verdict ≡ Err (fault why 0) =
+      ap (λ (ts : List Itb). faulted (blocking d.machine d.memory ts)) g.held
+      ∙ ap (λ (t : Step). faulted (refusal t)) (refused_alike d.machine after d.memory as_long (asks g.oldest.work) 0 why g.refusal) in
+      inr (
+        why,
+        verdict,
+        record {
+          oldest = g.oldest;
+          later = g.later;
+          held = g.held;
+          kind = g.kind;
+          address = sym (ap blocked_at g.held);
+          refusal = g.refusal;
+          reason = g.reason;
+          memory = refl;
+        },
+      )
 
   ends : Ends
   ends = says (outcome d.machine after) (stuck_agrees k d.machine after (drain_keeps k σ m s).1 halts)

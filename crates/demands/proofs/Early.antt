@@ -9,7 +9,8 @@ use mathlib.Core.Option.{some}
 use lib.ListN.{length, set, get_elem?, length-set}
 use lib.Seq.{set_comm}
 use borrow.Author.Tests.{lt-ltb}
-use Rattle.records.specs.Try.{Try, got, fails}
+use Rattle.std.specs.Prelude.{Result, Ok, Err}
+use Rattle.records.specs.declared.Refusal.{Refusal}
 use Rattle.value.specs.declared.Value.{Value}
 use Rattle.value.specs.declared.Value.TheVariants.{Undefined, Word}
 use Rattle.isa.specs.declared.InstrAddr.{InstrAddr}
@@ -42,7 +43,7 @@ cell_there [] i l = absurd (omega arith)
 cell_there (u ∷ m) zero l = (u, refl)
 cell_there (u ∷ m) (suc i) l = cell_there m i (omega arith)
 
-pub reads : (m : List Value) (x : ℕ) (v : Value) → get_elem? m x ≡ some v → read_at m (Word x) ≡ got v
+pub reads : (m : List Value) (x : ℕ) (v : Value) → get_elem? m x ≡ some v → read_at m (Word x) ≡ Ok v
 unfolding load_from
 reads m x v e = rw e
 
@@ -54,9 +55,9 @@ module _ (x size : ℕ) (v : Value) where
   Same (going e p m) = (length m ≡ size) × (get_elem? m x ≡ some v)
   Same (stopped a n m) = Unit
 
-  same_attempt : {A : Type 0} (a : InstrAddr) (m : List Value) (f : A → Run Env) → ((y : A) → Same (f y)) → (r : Try A) → Same (attempt a m f r)
-  same_attempt a m f h (got y) = h y
-  same_attempt a m f h (fails n) = tt
+  same_attempt : {A : Type 0} (a : InstrAddr) (m : List Value) (f : A → Run Env) → ((y : A) → Same (f y)) → (r : Result A Refusal) → Same (attempt a m f r)
+  same_attempt a m f h (Ok y) = h y
+  same_attempt a m f h (Err n) = tt
 
   same_execute : (a : InstrAddr) (w : Work) (r : Run Env) → LetsLoad x size w → Same r → Same (execute a w r)
   same_execute a w (stopped b n m) g h = tt

@@ -1,6 +1,5 @@
 -- A sound machine that can do nothing but issue agrees with its outcome.
 use Prim.Native.Nat.{ℕ}
-use native.Mathlib.Omega.{arith}
 use mathlib.Core.Path.{◌≡◌, refl, sym, ap₂, subst, ◌∙◌}
 use mathlib.Core.Logic.{◌⊎◌, inl, inr}
 use mathlib.Core.Bool.{Bool, true, false, cond, ◌||◌, true≢false, false≢true}
@@ -8,8 +7,9 @@ use mathlib.Core.List.{List, [], ◌∷◌, ◌++◌, map}
 use mathlib.Core.Option.{Option, none, some}
 use lib.Dec.{eqb, ltb}
 use lib.ListN.{length, set, get_elem?}
-use Rattle.records.specs.Refusal.{not_held, still_held, is_undefined, outside, other_way}
-use Rattle.records.specs.Try.{Try, got, fails}
+use Rattle.records.specs.declared.Refusal.TheVariants.{NotHeld, StillHeld, IsUndefined, Outside, OtherWay}
+use Rattle.std.specs.Prelude.{Result, Ok, Err}
+use Rattle.records.specs.declared.Refusal.{Refusal}
 use Rattle.value.specs.declared.Value.{Value}
 use Rattle.value.specs.declared.Value.TheVariants.{Undefined, Word}
 use Rattle.isa.specs.declared.InstrAddr.{InstrAddr}
@@ -38,35 +38,35 @@ use Rattle.rules.specs.Moves.{Refused, Stuck}
 use Rattle.demands.specs.Agrees.{valued, Agrees}
 use Rattle.demands.proofs.Flush.{execute, values, begin, nothing, outcome, flush_stopped}
 
--- ---- 16 and 17
+-- ---- why memory's addresses, and a Jz, are refused
 
-abbrev Reason : ℕ → Type 0
-Reason n = (n ≡ is_undefined) ⊎ (n ≡ outside)
+abbrev Reason : Refusal → Type 0
+Reason n = (n ≡ IsUndefined) ⊎ (n ≡ Outside)
 
-read_reason : (m : List Value) (u : Value) (n : ℕ) → read_at m u ≡ fails n → Reason n
+read_reason : (m : List Value) (u : Value) (n : Refusal) → read_at m u ≡ Err n → Reason n
 unfolding load_from
 read_reason m Undefined n e = inl (cc)
 read_reason m (Word x) n e = at (get_elem? m x) e
   where
-    at : (o : Option Value) → inside o ≡ fails n → Reason n
+    at : (o : Option Value) → inside o ≡ Err n → Reason n
     at none e = inr (cc)
-    at (some v) e = let z : ◌≡◌ {A = ℕ} 0 1 = cc in absurd (omega arith)
+    at (some v) e = absurd (cc)
 
-write_reason : (m : List Value) (u v : Value) (n : ℕ) → write_at m u v ≡ fails n → Reason n
+write_reason : (m : List Value) (u v : Value) (n : Refusal) → write_at m u v ≡ Err n → Reason n
 write_reason m Undefined v n e = inl (cc)
 write_reason m (Word x) v n e = at (ltb x (length m)) e
   where
-    at : (b : Bool) → cond b (got (set m x v)) (fails outside) ≡ fails n → Reason n
-    at true e = let z : ◌≡◌ {A = ℕ} 0 1 = cc in absurd (omega arith)
+    at : (b : Bool) → cond b (Ok (set m x v)) (Err Outside) ≡ Err n → Reason n
+    at true e = absurd (cc)
     at false e = inr (cc)
 
 -- ---- a refused test
 
-was_false : (b : Bool) (σ : Mach) (m : List Value) (n : ℕ) → Refused (cond b (accepted σ m) (refused n)) → b ≡ false
+was_false : (b : Bool) (σ : Mach) (m : List Value) (n : Refusal) → Refused (cond b (accepted σ m) (refused n)) → b ≡ false
 was_false true σ m n h = absurd h
 was_false false σ m n h = refl
 
-was_true : (b : Bool) (σ : Mach) (m : List Value) (n : ℕ) → Refused (cond b (refused n) (accepted σ m)) → b ≡ true
+was_true : (b : Bool) (σ : Mach) (m : List Value) (n : Refusal) → Refused (cond b (refused n) (accepted σ m)) → b ≡ true
 was_true true σ m n h = refl
 was_true false σ m n h = absurd h
 
@@ -74,37 +74,37 @@ was_true false σ m n h = absurd h
 pub no_value : (σ : Mach) (m : List Value) (pre : List Itb) (a : InstrAddr) (post : List Itb) (t : Tag) (v : Value)
     → ((r : Rule) → Refused (rule r σ m pre a post (Done t v))) → ⊥
 no_value σ m pre a post t v f =
-    let later = was_false (any_holds t post) (Rules.holding σ (pre ++ ITB a (Done t v) ∷ fill_all t v post)) m not_held (f Rule.Forward) in
+    let later = was_false (any_holds t post) (Rules.holding σ (pre ++ ITB a (Done t v) ∷ fill_all t v post)) m NotHeld (f Rule.Forward) in
     let register =
-    was_false (any_reg t σ.registers) (mach σ.counter (fill_regs t v σ.registers) (pre ++ ITB a (Done t v) ∷ post)) m not_held (f Rule.Commit) in
-    let some = was_true (any_reg t σ.registers || any_holds t post) (Rules.holding σ (pre ++ post)) m still_held (f Rule.Retire) in
+    was_false (any_reg t σ.registers) (mach σ.counter (fill_regs t v σ.registers) (pre ++ ITB a (Done t v) ∷ post)) m NotHeld (f Rule.Commit) in
+    let some = was_true (any_reg t σ.registers || any_holds t post) (Rules.holding σ (pre ++ post)) m StillHeld (f Rule.Retire) in
     true≢false (sym some ∙ rw (register, later))
 
 -- ---- the oldest template, of address a and with xs behind it, when no rule at its place is allowed
 
 module _ (σ : Mach) (m : List Value) (a : InstrAddr) (xs : List Itb) where
   pub record Facing (w : Work) : Type 0 where
-    why : ℕ
+    why : Refusal
     stops : execute a w (begin σ m) ≡ stopped a why m
     refusal : rule (asks w) σ m [] a xs w ≡ refused why
     reason : Reason why
     kind : (is_memory w || is_jz w) ≡ true
 
-  facing_load : (t : Tag) (u : Value) (r : Try Value) → read_at m u ≡ r
+  facing_load : (t : Tag) (u : Value) (r : Result Value Refusal) → read_at m u ≡ r
       → Refused (tried (λ v. becomes σ m [] a xs (Done t v)) r) → Facing (Load t (Known u))
-  facing_load t u (got v) e h = absurd h
-  facing_load t u (fails n) e h = record { why = n; stops = rw e; refusal = rw e; reason = read_reason m u n e; kind = refl }
+  facing_load t u (Ok v) e h = absurd h
+  facing_load t u (Err n) e h = record { why = n; stops = rw e; refusal = rw e; reason = read_reason m u n e; kind = refl }
 
-  facing_store : (u v : Value) (r : Try (List Value)) → write_at m u v ≡ r
+  facing_store : (u v : Value) (r : Result (List Value) Refusal) → write_at m u v ≡ r
       → Refused (tried (λ m'. accepted (Rules.holding σ xs) m') r) → Facing (Store (Known u) (Known v))
-  facing_store u v (got m') e h = absurd h
-  facing_store u v (fails n) e h = record { why = n; stops = rw e; refusal = rw e; reason = write_reason m u v n e; kind = refl }
+  facing_store u v (Ok m') e h = absurd h
+  facing_store u v (Err n) e h = record { why = n; stops = rw e; refusal = rw e; reason = write_reason m u v n e; kind = refl }
 
   facing_jz : (w : ℕ) (y : Operand) → Ready Sound.none y → (zero : Bool) → eqb w 0 ≡ zero
-      → Refused (cond zero (known (λ v. tried (go_to σ m [] a xs) (target v)) y) (refused other_way))
-      → Refused (cond zero (refused other_way) (go_to σ m [] a xs (next a))) → Facing (Jz (Known (Word w)) y)
+      → Refused (cond zero (known (λ v. tried (go_to σ m [] a xs) (target v)) y) (refused OtherWay))
+      → Refused (cond zero (refused OtherWay) (go_to σ m [] a xs (next a))) → Facing (Jz (Known (Word w)) y)
   facing_jz w (Known (Word n)) h true e jump no_jump = absurd jump
-  facing_jz w (Known Undefined) h true e jump no_jump = record { why = is_undefined; stops = rw e; refusal = rw e; reason = inl refl; kind = refl }
+  facing_jz w (Known Undefined) h true e jump no_jump = record { why = IsUndefined; stops = rw e; refusal = rw e; reason = inl refl; kind = refl }
   facing_jz w (Waits t) h true e jump no_jump = absurd (false≢true h)
   facing_jz w y h false e jump no_jump = absurd no_jump
 
@@ -119,7 +119,7 @@ module _ (σ : Mach) (m : List Value) (a : InstrAddr) (xs : List Itb) where
   facing (Store (Known u) (Waits s)) h f = absurd (false≢true h.1)
   facing (Store (Waits s) y) h f = absurd (false≢true h.0)
   facing (Jz (Known (Word w)) y) h f = facing_jz w y h.1 (eqb w 0) refl (f Rule.Jump) (f Rule.NoJump)
-  facing (Jz (Known Undefined) y) h f = record { why = is_undefined; stops = refl; refusal = refl; reason = inl refl; kind = refl }
+  facing (Jz (Known Undefined) y) h f = record { why = IsUndefined; stops = refl; refusal = refl; reason = inl refl; kind = refl }
   facing (Jz (Waits s) y) h f = absurd (false≢true h.0)
 
 -- ---- the whole

@@ -2,6 +2,8 @@
 use mathlib.Core.Path.{◌≡◌, refl}
 use mathlib.Core.List.{List, [], ◌∷◌}
 use lib.ListN.{replicate}
+use Rattle.std.specs.Prelude.{Ok, Err}
+use Rattle.records.specs.declared.Refusal.TheVariants.{IsUndefined}
 use Rattle.records.specs.Records.{records}
 use Rattle.value.specs.declared.Value.{Value}
 use Rattle.value.specs.declared.Value.TheVariants.{Undefined, Word}
@@ -60,7 +62,7 @@ unfolding schedule commands command_of
 reads_schedule = refl
 
 -- accepted 5 refused 0, issued 5
-accepts_five : (ran.accepted ≡ 5) × (ran.issued ≡ 5) × (ran.refusal ≡ 0)
+accepts_five : (ran.accepted ≡ 5) × (ran.issued ≡ 5) × (ran.verdict ≡ Ok tt)
 unfolding ran cells schedule division run_from obey issue
 accepts_five = (refl, refl, refl)
 
@@ -75,7 +77,7 @@ unfolding drained ran cells schedule division run_from obey issue drain_from old
 leaves = (refl, refl, refl)
 
 -- five instructions in order come to the same
-executes_five : (in_order.executed ≡ 5) × (in_order.stop ≡ 0)
+executes_five : (in_order.executed ≡ 5) × (in_order.stop ≡ Ok tt)
 unfolding in_order cells division InOrder.run_from step result_of
 executes_five = (refl, refl)
 
@@ -92,7 +94,7 @@ left =
     drain e.machine e.memory
 
 -- blocked 0 by 16 after 0
-blocks : (blocked_at left.machine.held ≡ instr_addr 0) × (blocking left.machine left.memory left.machine.held ≡ 16) × (left.rules ≡ 0)
+blocks : (blocked_at left.machine.held ≡ instr_addr 0) × (blocking left.machine left.memory left.machine.held ≡ Err IsUndefined) × (left.rules ≡ 0)
 unfolding left run_from obey issue drain_from oldest apply
 blocks = (refl, refl, refl)
 

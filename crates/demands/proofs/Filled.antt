@@ -2,7 +2,8 @@
 use mathlib.Core.Path.{◌≡◌, refl, sym, ap, ap₂, ◌∙◌}
 use mathlib.Core.Bool.{false}
 use mathlib.Core.List.{List, [], ◌∷◌}
-use Rattle.records.specs.Try.{Try, got, fails}
+use Rattle.std.specs.Prelude.{Result, Ok, Err}
+use Rattle.records.specs.declared.Refusal.{Refusal}
 use Rattle.value.specs.declared.Value.{Value}
 use Rattle.value.specs.Operation.{result_of}
 use Rattle.isa.specs.declared.InstrAddr.{InstrAddr}
@@ -28,9 +29,9 @@ module _ (t : Tag) (v : Value) where
   Has (going e p m) = e t ≡ v
   Has (stopped a n m) = Unit
 
-  has_attempt : {A : Type 0} (a : InstrAddr) (m : List Value) (f : A → Run Env) → ((x : A) → Has (f x)) → (r : Try A) → Has (attempt a m f r)
-  has_attempt a m f h (got x) = h x
-  has_attempt a m f h (fails n) = tt
+  has_attempt : {A : Type 0} (a : InstrAddr) (m : List Value) (f : A → Run Env) → ((x : A) → Has (f x)) → (r : Result A Refusal) → Has (attempt a m f r)
+  has_attempt a m f h (Ok x) = h x
+  has_attempt a m f h (Err n) = tt
 
   execute_has : (a : InstrAddr) (w : Work) (r : Run Env) → same_tag (makes w) t ≡ false → Has r → Has (execute a w r)
   execute_has a w (stopped b n m) d h = tt

@@ -2,8 +2,8 @@
 use mathlib.Core.Path.{◌≡◌, refl, ap, ◌∙◌}
 use mathlib.Core.Bool.{false, true≢false}
 use mathlib.Core.List.{List, [], ◌∷◌, ◌++◌, map}
-use Prim.Native.Nat.{ℕ}
-use Rattle.records.specs.Try.{Try, got, fails}
+use Rattle.std.specs.Prelude.{Result, Ok, Err}
+use Rattle.records.specs.declared.Refusal.{Refusal}
 use Rattle.value.specs.declared.Value.{Value}
 use Rattle.value.specs.declared.Value.TheVariants.{Undefined}
 use Rattle.value.specs.Operation.{result_of}
@@ -66,7 +66,7 @@ pub flush-append : (xs ys : List Itb) (r : Run Env) → flush (xs ++ ys) r ≡ f
 flush-append [] ys r = refl
 flush-append (x ∷ xs) ys r = flush-append xs ys (execute x.address x.work r)
 
-pub flush_stopped : (xs : List Itb) (a : InstrAddr) (n : ℕ) (m : List Value) → flush xs (stopped a n m) ≡ stopped a n m
+pub flush_stopped : (xs : List Itb) (a : InstrAddr) (n : Refusal) (m : List Value) → flush xs (stopped a n m) ≡ stopped a n m
 flush_stopped [] a n m = refl
 flush_stopped (x ∷ xs) a n m = flush_stopped xs a n m
 
@@ -77,10 +77,10 @@ at q (going e p m) = going e q m
 at q (stopped a n m) = stopped a n m
 
 module _ (q : InstrAddr) where
-  attempt-at : {A : Type 0} (a : InstrAddr) (m : List Value) (f g : A → Run Env) → ((x : A) → f x ≡ at q (g x)) → (r : Try A)
+  attempt-at : {A : Type 0} (a : InstrAddr) (m : List Value) (f g : A → Run Env) → ((x : A) → f x ≡ at q (g x)) → (r : Result A Refusal)
       → attempt a m f r ≡ at q (attempt a m g r)
-  attempt-at a m f g h (got x) = h x
-  attempt-at a m f g h (fails n) = refl
+  attempt-at a m f g h (Ok x) = h x
+  attempt-at a m f g h (Err n) = refl
 
   execute-at : (a : InstrAddr) (w : Work) (r : Run Env) → is_jz w ≡ false → execute a w (at q r) ≡ at q (execute a w r)
   execute-at a w (stopped b n m) j = refl

@@ -6,7 +6,8 @@ use mathlib.Core.List.{List, [], ◌∷◌}
 use mathlib.Core.Option.{Option, none, some}
 use lib.Dec.{leb}
 use lib.ListN.{length, set, get_elem?, get_or-map}
-use Rattle.records.specs.Try.{Try, got, fails}
+use Rattle.std.specs.Prelude.{Result, Ok, Err}
+use Rattle.records.specs.declared.Refusal.{Refusal}
 use Rattle.value.specs.declared.Value.{Value}
 use Rattle.value.specs.declared.Value.TheVariants.{Undefined, Word}
 use Rattle.value.specs.Operation.{result_of}
@@ -58,9 +59,9 @@ value-put e t v rf r h = at_place rf r.0 h
         ap₂ (λ u us. InOrder.register u ∷ us) (resolve-given t v e q.holds i.0) (at_place rf n i.1)
 
 finish-attempt : {A : Type 0} (rf : List Register) (a : InstrAddr) (m : List Value) (f : A → Run Env) (g : A → Run (List InOrderRegister))
-    → ((x : A) → finish rf (f x) ≡ g x) → (r : Try A) → finish rf (attempt a m f r) ≡ attempt a m g r
-finish-attempt rf a m f g h (got x) = h x
-finish-attempt rf a m f g h (fails n) = refl
+    → ((x : A) → finish rf (f x) ≡ g x) → (r : Result A Refusal) → finish rf (attempt a m f r) ≡ attempt a m g r
+finish-attempt rf a m f g h (Ok x) = h x
+finish-attempt rf a m f g h (Err n) = refl
 
 -- ---- the new template does what the instruction does
 

@@ -4,7 +4,7 @@ use mathlib.Core.Path.{◌≡◌, refl, sym, ap, ◌∙◌}
 use mathlib.Core.Bool.{false}
 use mathlib.Core.List.{List, ◌∷◌, ◌++◌}
 use lib.ListN.{length, set}
-use Rattle.records.specs.Try.{got}
+use Rattle.std.specs.Prelude.{Ok}
 use Rattle.value.specs.declared.Value.{Value}
 use Rattle.value.specs.declared.Value.TheVariants.{Word}
 use Rattle.value.specs.Operation.{result_of}
@@ -35,7 +35,7 @@ execute_op : (a : InstrAddr) (t : Tag) (n : ℕ) (u v : Value) (r : Run Env) →
 execute_op a t n u v (going e p m) = refl
 execute_op a t n u v (stopped b i m) = refl
 
-execute_jz : (a : InstrAddr) (u : Value) (y : Operand) (ia : InstrAddr) → ((e : Env) → branch a u (resolve e y) ≡ got ia) → (r : Run Env)
+execute_jz : (a : InstrAddr) (u : Value) (y : Operand) (ia : InstrAddr) → ((e : Env) → branch a u (resolve e y) ≡ Ok ia) → (r : Run Env)
     → execute a (Jz (Known u) y) r ≡ at ia r
 execute_jz a u y ia h (going e p m) = rw (h e)
 execute_jz a u y ia h (stopped b n m) = refl
@@ -64,7 +64,7 @@ module _ (k : ℕ) (σ : Mach) (m : List Value) (pre : List Itb) (a : InstrAddr)
   keeps_cases : Cases σ m pre a post (λ w r. Was w → Keeps (outcome (holding σ (pre ++ ITB a w ∷ post)) m) r)
   keeps_cases =
       record {
-        refuses = λ w n e s. tt;
+        refuses = λ w n s. tt;
         operates = λ t n u v s. same (Op t n (Known u) (Known v)) _ _ (whole (Done t (result_of n u v))) (execute_op a t n u v front);
         forwards = λ t v h s.
             ap (finish σ.registers) (flush-append pre (ITB a (Done t v) ∷ fill_all t v post) (begin σ m)

@@ -44,7 +44,7 @@ module _ (σ : Mach) (m : List Value) (pre : List Itb) (a : InstrAddr) (post : L
   lowers_cases : Cases σ m pre a post (λ w r. OnStep (λ σ' m'. weight σ' < was w) r)
   lowers_cases =
       record {
-        refuses = λ w n e. tt;
+        refuses = λ w n. tt;
         operates = λ t n u v. becomes-less (Op t n (Known u) (Known v)) t (result_of n u v) (omega arith);
         forwards = λ t v h.
             less_behind rf rf (λ s e. e) pre (ITB a (Done t v) ∷ post) (ITB a (Done t v) ∷ fill_all t v post) (templates_under t v post)

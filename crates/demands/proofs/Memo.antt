@@ -3,14 +3,15 @@ use Prim.Native.Nat.{ℕ, suc, ◌≤◌, ◌<◌}
 use native.Mathlib.Omega.{arith}
 use mathlib.Core.Path.{◌≡◌, refl, sym, ap, subst, ◌∙◌}
 use mathlib.Core.Logic.{◌↔◌}
-use mathlib.Core.Bool.{Bool, true, false, ◌||◌, true≢false, false≢true}
+use mathlib.Core.Bool.{true, false, ◌||◌, true≢false, false≢true, or-true}
 use mathlib.Core.List.{List, [], ◌∷◌, ◌++◌, append-nil}
 use mathlib.Core.Option.{Option, none, some}
 use lib.Dec.{eqb, leb, ltb}
 use lib.ListN.{length, get_or, set, take, drop, get_elem?}
 use lib.Seq.{split_at, length-take-le}
 use borrow.Author.Tests.{eqb-true, eqb-false, ne_eqb, ltb-true, lt-ltb, leb-false, lt-leb}
-use Rattle.records.specs.Try.{got}
+use Rattle.std.specs.Prelude.{Ok}
+use Rattle.records.specs.declared.Refusal.{Refusal}
 use Rattle.value.specs.declared.Value.{Value}
 use Rattle.value.specs.declared.Value.TheVariants.{Undefined, Word}
 use Rattle.isa.specs.declared.InstrAddr.{InstrAddr}
@@ -53,7 +54,7 @@ unused t itbs e =
     let h = (new_said (λ s. any_makes s itbs) t).holds e in
     record { from = h.0; to = h.1; new = h.2 }
 
-writes : (m : List Value) (a : ℕ) (v : Value) → a < length m → write_at m (Word a) v ≡ got (set m a v)
+writes : (m : List Value) (a : ℕ) (v : Value) → a < length m → write_at m (Word a) v ≡ Ok (set m a v)
 writes m a v l = rw (lt-ltb a (length m) l) refl
 
 -- ---- from a step of the memo to an accepted command
@@ -106,11 +107,7 @@ module _ (prog : List Instr) where
 
 some_jz : (pre : List Itb) (a : InstrAddr) (x y : Operand) (post : List Itb) → any_jz (pre ++ ITB a (Jz x y) ∷ post) ≡ true
 some_jz [] a x y post = refl
-some_jz (z ∷ pre) a x y post = or-true (is_jz z.work) (some_jz pre a x y post)
-  where
-    or-true : (b : Bool) {c : Bool} → c ≡ true → (b || c) ≡ true
-    or-true true e = refl
-    or-true false e = e
+some_jz (z ∷ pre) a x y post = rw (some_jz pre a x y post) (or-true (is_jz z.work))
 
 ends_there : (pre : List Itb) (a : InstrAddr) (x y : Operand) (z : Itb) (post : List Itb)
     → ends_in_jz (pre ++ ITB a (Jz x y) ∷ z ∷ post) ≡ false
@@ -343,10 +340,10 @@ module _ (prog : List Instr) (k : ℕ) (σ : Mach) (sound : sound_mach k σ ≡ 
       (λ e. subst (Told prog σ m c) e (obey-told prog σ m ((sound_said k σ).holds sound).counter c), memo_accepted prog)
 
   -- refused where they give nothing
-  pub refused_exactly : ((n : ℕ) × (obey prog c σ m ≡ refused n)) ↔ ((σ' : Mach) (m' : List Value) → Renames prog σ m c σ' m' → ⊥)
+  pub refused_exactly : ((n : Refusal) × (obey prog c σ m ≡ refused n)) ↔ ((σ' : Mach) (m' : List Value) → Renames prog σ m c σ' m' → ⊥)
   refused_exactly = (λ no σ' m' r. subst Refused (sym no.1 ∙ memo_accepted prog r) tt, none-refused (obey prog c σ m) refl)
     where
       none-refused : (s : Step) → obey prog c σ m ≡ s → ((σ' : Mach) (m' : List Value) → Renames prog σ m c σ' m' → ⊥)
-          → (n : ℕ) × (obey prog c σ m ≡ refused n)
+          → (n : Refusal) × (obey prog c σ m ≡ refused n)
       none-refused (accepted σ' m') e never = absurd (never σ' m' ((accepted_exactly σ' m').0 e))
       none-refused (refused n) e never = (n, e)

@@ -7,6 +7,7 @@ use mathlib.Core.Option.{Option, none, some}
 use lib.Dec.{eqb, ltb}
 use lib.ListN.{length, get_elem?}
 use borrow.Author.Tests.{eqb-true, eqb-false, ne_eqb, ltb-true, lt-ltb}
+use Rattle.records.specs.declared.Refusal.{Refusal}
 use Rattle.value.specs.declared.Value.{Value}
 use Rattle.value.specs.declared.Value.TheVariants.{Undefined, Word}
 use Rattle.isa.specs.declared.InstrAddr.{InstrAddr}
@@ -20,7 +21,7 @@ use Rattle.sound.proofs.Basics.{by_test}
 use Rattle.inorder.specs.declared.Register.{Register}
 use Rattle.inorder.specs.declared.InOrder.{InOrder}
 use Rattle.inorder.specs.Machine.{machine, held, put, perform, step, once}
-use Rattle.inorder.proofs.Stops.{Stops, once_stops}
+use Rattle.inorder.proofs.Stops.{once_stops}
 use Rattle.demands.specs.Memo.{Fetches}
 use Rattle.demands.specs.MemoBase as Memo
 use Rattle.demands.specs.MemoBase.{Proc, Executes}
@@ -110,12 +111,12 @@ module _ (prog : List Instr) (s : InOrder) (m : List Value) where
   goes_exactly s' m' = (λ e. subst (Told prog s.counter s.registers m) e (once-told prog s.counter s.registers m), memo_goes prog)
 
   -- it stops, unchanged, where they give nothing
-  pub stops_exactly : ((n : ℕ) × (once prog s m ≡ stopped s.counter n m)) ↔ ((s' : InOrder) (m' : List Value) → Executes prog s m s' m' → ⊥)
+  pub stops_exactly : ((n : Refusal) × (once prog s m ≡ stopped s.counter n m)) ↔ ((s' : InOrder) (m' : List Value) → Executes prog s m s' m' → ⊥)
   stops_exactly = (λ no s' m' x. subst Stopped (sym no.1 ∙ memo_goes prog x) tt, none_stops (once prog s m) refl)
     where
       none_stops : (r : Run') → once prog s m ≡ r → ((s' : InOrder) (m' : List Value) → Executes prog s m s' m' → ⊥)
-          → (n : ℕ) × (once prog s m ≡ stopped s.counter n m)
+          → (n : Refusal) × (once prog s m ≡ stopped s.counter n m)
       none_stops (going rf ia m') e never = absurd (never (machine ia rf) m' ((goes_exactly (machine ia rf) m').0 e))
       none_stops (stopped ia n m') e never =
-          let h = subst (Stops s.counter m) e (once_stops prog s m) in
-          (n, e ∙ ap₂ (λ (b : InstrAddr) (l : List Value). stopped b n l) h.1 h.2)
+          let h = rw e at (once_stops prog s m) in
+          (n, e ∙ ap₂ (λ (b : InstrAddr) (l : List Value). stopped b n l) h.0 h.1)

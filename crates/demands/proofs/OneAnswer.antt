@@ -2,7 +2,10 @@
 use Prim.Native.Nat.{ℕ}
 use mathlib.Core.Path.{◌≡◌, sym, ◌∙◌}
 use mathlib.Core.List.{List}
-use Rattle.demands.specs.OneAnswer.{OneAnswer, OneAnswerAndBuffer, OneAnswerAndBuffers, OneAnswers}
+use Rattle.text.specs.declared.Page.{Page}
+use Rattle.text.specs.Page.{Adds}
+use Rattle.lines.specs.Lines.{AddsWithin}
+use Rattle.demands.specs.OneAnswer.{OneAnswer, OneAnswerAndBuffer, OneAnswerAndBuffers, OnePage, OneAnswers}
 
 pub one_answer : {A : Type 0} (d : A) → OneAnswer (λ (r : A). r ≡ d)
 one_answer d r r' e f = e ∙ sym f
@@ -23,6 +26,14 @@ one_triple P {d} {b₀} {c₀} says r r' b b' c c' e f =
     let h = says r' b' c' f in
     (one_answer d r r' g.0 h.0, one_answer b₀ b b' g.1 h.1, one_answer c₀ c c' g.2 h.2)
 
+-- so does the promise of a text on a page
+one_page : {p : Page} {t : List ℕ} → OnePage (Adds p t)
+one_page q q' e f = (e.text.next ∙ sym f.text.next, e.text.holds ∙ sym f.text.holds, e.same_buffer ∙ sym f.same_buffer)
+
+one_page_within : {p : Page} {t : List ℕ} {k : ℕ} → OnePage (AddsWithin p t k)
+one_page_within q q' e f =
+    (e.puts.text.next ∙ sym f.puts.text.next, e.puts.text.holds ∙ sym f.puts.text.holds, e.same_buffer ∙ sym f.same_buffer)
+
 pub one_answers : OneAnswers
 one_answers =
     record {
@@ -34,27 +45,32 @@ one_answers =
       write = λ i out. one_pair _ (λ r out' e. (e.answer, e.output));
       list = λ p out. one_pair _ (λ r out' e. (e.answer, e.output));
       store = λ b a v. one_pair _ (λ r b' e. (e.answer, e.bytes));
-      put_text = λ b at t. one_pair _ (λ r b' e. (e.next, e.holds));
-      put_decimal = λ b at n. one_pair _ (λ r b' e. (e.next, e.holds));
       write_at = λ b a v. one_pair _ (λ r b' e. (e.answer, e.bytes));
-      put_input = λ b file refusal number. one_pair _ (λ r b' e. (e.text.next, e.text.holds));
-      put_ran = λ b at accepted refusal issued. one_pair _ (λ r b' e. (e.text.next, e.text.holds));
-      put_drained = λ b at rules. one_pair _ (λ r b' e. (e.text.next, e.text.holds));
-      put_blocked = λ b at a refusal rules. one_pair _ (λ r b' e. (e.text.next, e.text.holds));
-      put_counter = λ b at c. one_pair _ (λ r b' e. (e.text.next, e.text.holds));
-      put_value = λ b at name i v. one_pair _ (λ r b' e. (e.text.next, e.text.holds));
-      put_registers = λ b at rf. one_pair _ (λ r b' e. (e.text.next, e.text.holds));
       shows = λ s b out. one_pair _ (λ r out' e. (e.answer, e.output));
       report = λ p b s out. one_triple _ (λ r b' out' e. (e.writes.answer, e.memory, e.writes.output));
+      put_text = λ p t q q' e f. one_page q q' e f;
+      put_decimal = λ p n q q' e f. one_page q q' e f;
+      put_input = λ p file refusal number q q' e f. one_page_within q q' e f;
+      put_ran = λ p accepted refusal issued q q' e f. one_page_within q q' e f;
+      put_drained = λ p rules q q' e f. one_page_within q q' e f;
+      put_blocked = λ p a refusal rules q q' e f. one_page_within q q' e f;
+      put_counter = λ p c q q' e f. one_page_within q q' e f;
+      put_value = λ p name i v q q' e f. one_page_within q q' e f;
+      put_registers = λ p rf q q' e f. one_page_within q q' e f;
       read_record = λ b number. one_answer _;
       write_record = λ b number r. one_answer _;
       is_whole = λ b. one_answer _;
       judge = λ refusal formed count. one_answer _;
+      scan = λ refusal right b. one_answer _;
+      number = λ refusal. one_answer _;
+      fault_from = λ refusal. one_answer _;
       operate = λ n x y. one_answer _;
       read_instruction = λ b. one_answer _;
       fetch = λ p a. one_answer _;
       decode = λ p a. one_answer _;
+      is_instruction = λ r. one_answer _;
       scan_program = λ p. one_answer _;
+      is_cell = λ r. one_answer _;
       scan_memory = λ b. one_answer _;
       load = λ b a. one_answer _;
       check = λ p b. one_answer _;
@@ -85,7 +101,10 @@ one_answers =
       fill_registers = λ rf t v r r' e f. one_answer _ r r' e.numbers f.numbers;
       hold = λ rf x o r r' e f. one_answer _ r r' e.numbers f.numbers;
       put = λ ts p x r r' e f. one_answer _ r r' e.rows f.rows;
+      coded = λ o r r' e f. one_answer _ r r' e.is f.is;
+      row = λ x r r' e f. one_answer _ r r' e.is f.is;
       numbers = λ rf r r' e f. one_answer _ r r' e.numbers f.numbers;
+      rows = λ ts r r' e f. one_answer _ r r' e.rows f.rows;
       template = λ ts p. one_answer _;
       templates = λ ts n. one_answer _;
       registers = λ rf. one_answer _;
@@ -94,6 +113,7 @@ one_answers =
       retire = λ ts rf n p. one_answer _;
       operate_at = λ ts p. one_answer _;
       load_at = λ ts p b. one_answer _;
+      store_at = λ ts p. one_answer _;
       jump = λ ts p. one_answer _;
       no_jump = λ ts p. one_answer _;
       refusal_on = λ ts rf n r p b. one_answer _;

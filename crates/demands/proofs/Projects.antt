@@ -1,6 +1,6 @@
 -- The memo's Theorem 2: what the drain leaves takes an in-order step at an issue, and none at any other rule.
 use Prim.Native.Nat.{ℕ}
-use mathlib.Core.Path.{◌≡◌, sym, ap, ap₂, subst, ◌∙◌}
+use mathlib.Core.Path.{◌≡◌, sym, ap, ap₂, ◌∙◌}
 use mathlib.Core.Bool.{true}
 use mathlib.Core.List.{List, ◌∷◌}
 use lib.ListN.{length}
@@ -8,7 +8,7 @@ use Rattle.value.specs.declared.Value.{Value}
 use Rattle.isa.specs.declared.Tag.{Tag}
 use Rattle.isa.specs.declared.Instr.{Instr}
 use Rattle.isa.specs.Program.{program}
-use Rattle.kernel.specs.Kernel.{Run, going}
+use Rattle.kernel.specs.Kernel.{going}
 use Rattle.templates.specs.Machine.{Mach}
 use Rattle.sound.specs.Sound.{sound_mach}
 use Rattle.sound.proofs.Soundness.{Sound}
@@ -20,7 +20,6 @@ use Rattle.rules.specs.Schedule.{obey}
 use Rattle.rules.specs.Drain.{drain}
 use Rattle.isa.proofs.Formed.{AllFormed, program_formed}
 use Rattle.rules.proofs.Keeping.{apply_keeps_sound, issue_keeps_sound}
-use Rattle.inorder.specs.declared.Register.{Register}
 use Rattle.inorder.specs.declared.InOrder.{InOrder}
 use Rattle.inorder.specs.Machine.{step, once}
 use Rattle.rules.specs.Moves.{Move, and_then, continued}
@@ -45,7 +44,7 @@ module _ (k : ℕ) (σ : Mach) (m : List Value) (s : Sound k σ) where
 
   drain_agrees : Agrees (outcome σ m) (drain σ m).machine (drain σ m).memory
   drain_agrees =
-      subst (λ (o : Run (List Register)). Agrees o (drain σ m).machine (drain σ m).memory) drain_keeps.0
+      rw (← drain_keeps.0)
       (stuck_agrees k (drain σ m).machine (drain σ m).memory drain_keeps.1 (drain_stuck σ m s.few))
 
   itbf_outcome : (a : InOrder) (l : List Value) → ITBF σ m a l → outcome σ m ≡ going a.registers a.counter l
@@ -87,7 +86,7 @@ module _ (prog : List Instr) (formed : AllFormed prog) (σ : Mach) (m : List Val
             (goes_exactly prog s₁ m₁ s₂ m₂).0 (sym (stepped t σ' m' x s₁ m₁ f) ∙ itbf_outcome (length prog) σ' m' (sound_after t σ' m' x) s₂ m₂ g);
         others = same_end;
         agrees = λ t σ' m' a l x f.
-            subst (λ (o : Run (List Register)). Agrees o (drain σ' m').machine (drain σ' m').memory) (stepped t σ' m' x a l f)
+            rw (← stepped t σ' m' x a l f)
             (drain_agrees (length prog) σ' m' (sound_after t σ' m' x));
       }
 

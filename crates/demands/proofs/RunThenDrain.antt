@@ -2,16 +2,21 @@
 use Prim.Native.Nat.{ℕ, ◌*◌, ◌/◌, ◌%◌, ◌<◌, ◌≤◌}
 use native.Mathlib.Decide.{dec_lt}
 use native.Mathlib.Omega.{arith}
-use mathlib.Core.Path.{◌≡◌, refl, sym, ap, ap₂, subst, ◌∙◌}
+use mathlib.Core.Path.{◌≡◌, refl, sym, ap, ap₂, ◌∙◌}
+use mathlib.Core.Logic.{◌⊎◌, inl, inr}
 use mathlib.Core.Bool.{Bool, true, false, cond, ◌&&◌, and-eq-true_iff}
 use mathlib.Core.List.{List, map}
 use mathlib.Core.Option.{Option, none, some}
+use Rattle.std.specs.Prelude.{Result, Err}
 use lib.Dec.{eqb, leb}
 use lib.ListN.{length, take, get_elem?, length-set, length-map}
 use borrow.Author.Tests.{eq-eqb, leb-true, le-leb}
 use Rattle.records.specs.Records.{is_whole}
-use Rattle.records.specs.Scan.{verdict}
-use Rattle.records.specs.Refusal.{bad_length}
+use Rattle.records.specs.Scan.{refused, accepted}
+use Rattle.records.specs.declared.Refusal.TheVariants.{BadLength, IsUndefined, Outside}
+use Rattle.records.specs.declared.Fault.{Fault}
+use Rattle.records.specs.declared.Refusal.{Refusal}
+use Rattle.records.specs.Refusal.{fault, faulted}
 use Rattle.records.proofs.Image as Image
 use Rattle.value.specs.declared.Value.{Value}
 use Rattle.isa.specs.declared.InstrAddr.{InstrAddr}
@@ -39,7 +44,7 @@ use Rattle.rules.specs.declared.Command.{Command}
 use Rattle.rules.specs.declared.Command.TheVariants.{Malformed, Issue, Apply}
 use Rattle.renaming.specs.declared.Ran.{Ran}
 use Rattle.renaming.specs.declared.Settled.{Settled}
-use Rattle.rules.specs.Rules.{tried, tag_ok, issue_at, issue_from, issue}
+use Rattle.rules.specs.Rules.{Step, tried, tag_ok, issue_at, issue_from, issue}
 use Rattle.rules.specs.Schedule.{obey}
 use Rattle.rules.specs.Run.{End, commands}
 use Rattle.rules.specs.Drain.{Drained, drain, blocking, blocked_at, refusal}
@@ -70,7 +75,7 @@ long_cases : (σ : Mach) (m : List Value) (pre : List Itb) (a : InstrAddr) (post
     → Cases σ m pre a post (λ w r. OnStep (AsLong m) r)
 long_cases σ m pre a post =
     record {
-      refuses = λ w n e. tt;
+      refuses = λ w n. tt;
       operates = λ t n u v. refl;
       forwards = λ t v h. refl;
       commits = λ t v h. refl;
@@ -105,14 +110,14 @@ obeyed_long prog cs σ m =
 
 -- ---- what the run leaves passes the checks again
 
-both-whole : (p b : List ℕ) → (checked p b).refusal ≡ 0 → (is_whole p ≡ true) × (is_whole b ≡ true)
+both-whole : (p b : List ℕ) → checked p b ≡ accepted → (is_whole p ≡ true) × (is_whole b ≡ true)
 unfolding checked
 both-whole p b = go (is_whole p && is_whole b) refl
   where
-    go : (t : Bool) → (is_whole p && is_whole b) ≡ t → (cond t (first (Program.scan_of p) (Cells.scan_of b)) (verdict bad_length 0)).refusal ≡ 0
+    go : (t : Bool) → (is_whole p && is_whole b) ≡ t → cond t (first (Program.scan_of p) (Cells.scan_of b)) (refused BadLength 0) ≡ accepted
         → (is_whole p ≡ true) × (is_whole b ≡ true)
     go true e h = (and-eq-true_iff (is_whole p) (is_whole b)).0 e
-    go false e h = absurd (omega arith)
+    go false e h = absurd (cc)
 
 pub image_long : (m : List Value) → length (image m) ≡ 8 * length m
 unfolding image
@@ -129,22 +134,27 @@ few_cells b e =
     let h = leb-true (length b) 8192 ((and-eq-true_iff (eqb (length b % 8) 0) (leb (length b) 8192)).0 e).1 in
     omega (arith, length-cells b)
 
-checked_again : (p b : List ℕ) → (checked p b).refusal ≡ 0 → (m : List Value) → Words m → length m ≤ 1024 → (checked p (image m)).refusal ≡ 0
+checked_again : (p b : List ℕ) → checked p b ≡ accepted → (m : List Value) → Words m → length m ≤ 1024 → checked p (image m) ≡ accepted
 unfolding checked
 checked_again p b ok m w few = rw ((both-whole p b ok).0, image-whole m few, (checks_say p b ok).program, scan-image m w few) refl
 
-entered_again : (p b : List ℕ) (s : State) → (checked p b).refusal ≡ 0 → is_sound (length p / 8) s ≡ true → (entered p b s).refusal ≡ 0
+entered_again : (p b : List ℕ) (s : State) → checked p b ≡ accepted → is_sound (length p / 8) s ≡ true → entered p b s ≡ accepted
 unfolding entered
-entered_again p b s ok sound = rw (eq-eqb _ _ ok, sound) refl
+entered_again p b s ok sound = rw (ok, sound) refl
 
 -- ---- in the words of the answers
+
+reason_of : {v : Result Unit Fault} {why : Refusal} → v ≡ Err (fault why 0) → (why ≡ IsUndefined) ⊎ (why ≡ Outside)
+    → (v ≡ Err (fault IsUndefined 0)) ⊎ (v ≡ Err (fault Outside 0))
+reason_of e (inl g) = inl (e ∙ ap (λ (w : Refusal). Err (fault w 0)) g)
+reason_of e (inr g) = inr (e ∙ ap (λ (w : Refusal). Err (fault w 0)) g)
 
 module _ (d : Drained) (x : InOrder.End) (n : ℕ) (a : AgreesWith n x d.machine d.memory) where
   when_all : x.executed ≡ n → Emptied (settled d) (InOrder.ended x)
   when_all e =
       let g = a.went e in
       record {
-        refusal = ap (blocking d.machine d.memory) g.empty;
+        verdict = ap (λ (ts : List Itb). faulted (blocking d.machine d.memory ts)) g.empty;
         empty = ap (λ (ts : List Itb). length ts) g.empty;
         counter = g.counter;
         registers = g.registers;
@@ -152,10 +162,12 @@ module _ (d : Drained) (x : InOrder.End) (n : ℕ) (a : AgreesWith n x d.machine
 
   when_fewer : x.executed < n → StoppedAt (settled d) (InOrder.ended x)
   when_fewer l =
-      let g = a.halted l in
+      let h = a.halted l in
+      let g = h.2 in
       record {
-        refusal = ap (blocking d.machine d.memory) g.held ∙ ap refusal g.refusal;
-        reason = g.reason;
+        verdict =
+            ap (λ (ts : List Itb). faulted (blocking d.machine d.memory ts)) g.held ∙ ap (λ (t : Step). faulted (refusal t)) g.refusal ∙ sym h.1;
+        reason = reason_of h.1 g.reason;
         address = ap blocked_at g.held ∙ g.address;
       }
 
@@ -163,7 +175,7 @@ module _ (d : Drained) (x : InOrder.End) (n : ℕ) (a : AgreesWith n x d.machine
   same_memory = by (dec_lt x.executed n)
     where
       by : Dec (x.executed < n) → d.memory ≡ x.memory
-      by (yes l) = (a.halted l).memory
+      by (yes l) = (a.halted l).2.memory
       by (no l) = let in_all = a.within in (a.went (omega arith)).memory
 
 -- ---- the theorem
@@ -194,8 +206,8 @@ module _ (p b records : List ℕ) where
         memory = ap image (same_memory d x e.issued a);
       }
 
-  module _ (small-p : AreBytes p) (small_b : AreBytes b) (ok : (entered_run p b (state_of start) records).refusal ≡ 0) where
-    passes : (checked p b).refusal ≡ 0
+  module _ (small-p : AreBytes p) (small_b : AreBytes b) (ok : entered_run p b (state_of start) records ≡ accepted) where
+    passes : checked p b ≡ accepted
     passes = entered-checked p b (state_of start) (length_passed (eqb (length records % 4) 0) (entered p b (state_of start)) ok)
 
     words : Words e.memory
@@ -205,7 +217,7 @@ module _ (p b records : List ℕ) where
 
     machine_sound : Sound (length p / 8) e.machine
     machine_sound =
-        subst (λ (k : ℕ). Sound k e.machine) (length-program p (checked-program p b refl passes))
+        rw (← length-program p (checked-program p b refl passes))
         (run-steps-outcome (program p) (program_formed p) (commands records) start (cells b) (start_sound _)).1
 
     memory_few : length e.memory ≤ 1024
@@ -214,7 +226,7 @@ module _ (p b records : List ℕ) where
         let same : length e.memory ≡ length (cells b) = on_accepted (AsLong (cells b)) r.allowed (obeyed_long (program p) (take e.accepted (commands records)) start (cells b)) in
         omega (arith, few_cells b (both-whole p b passes).1)
 
-    enters : (entered p (image e.memory) (state_of e.machine)).refusal ≡ 0
+    enters : entered p (image e.memory) (state_of e.machine) ≡ accepted
     enters =
         entered_again p (image e.memory) (state_of e.machine) (checked_again p b passes e.memory words memory_few)
         (sound_state (length p / 8) e.machine machine_sound)
@@ -240,14 +252,9 @@ module _ (p b records : List ℕ) where
         → (q : InOrderRan) (c : List ℕ) → InOrder.Runs p Machine.start b r.issued q c → SameEnd r s b'' q c
     ends_alike r b' g s b'' h q c k =
         let one = run_comes_to r b' g in
-        let h' = subst (λ (y : List ℕ). Drains p (state_of e.machine) y s b'') one.1 (subst (λ (y : Ran). Drains p y.state b' s b'') one.0 h) in
-        let two = drain_comes_to s b'' h' in
-        let three = in_order_comes_to q c (subst (λ (y : Ran). InOrder.Runs p Machine.start b y.issued q c) one.0 k) in
-        let a₁ = subst (λ (y : Ran). SameEnd y (settled d) (image d.memory) (InOrder.ended x) (image x.memory)) (sym one.0) answers_agree in
-        let a₂ = subst (λ (y : Settled). SameEnd r y (image d.memory) (InOrder.ended x) (image x.memory)) (sym two.0) a₁ in
-        let a₃ = subst (λ (y : List ℕ). SameEnd r s y (InOrder.ended x) (image x.memory)) (sym two.1) a₂ in
-        let a₄ = subst (λ (y : InOrderRan). SameEnd r s b'' y (image x.memory)) (sym three.0) a₃ in
-        subst (λ (y : List ℕ). SameEnd r s b'' q y) (sym three.1) a₄
+        let two = drain_comes_to s b'' (rw (one.0, one.1) at h) in
+        let three = in_order_comes_to q c (rw one.0 at k) in
+        rw (one.0, two.0, two.1, three.0, three.1) answers_agree
 
 pub run_then_drain : (p b records : List ℕ) → RunThenDrain p b records
 run_then_drain p b records small-p small_b ok = ends_alike p b records small-p small_b ok

@@ -4,8 +4,9 @@ use mathlib.Core.Path.{◌≡◌, refl, sym, ap, ap₂, ◌∙◌}
 use mathlib.Core.Bool.{false, cond, ◌||◌, or_assoc, true≢false}
 use mathlib.Core.List.{List, [], ◌∷◌, ◌++◌, map}
 use lib.Dec.{eqb}
-use Rattle.records.specs.Refusal.{needs_tag, earlier_memory, is_undefined}
-use Rattle.records.specs.Try.{Try, got, fails}
+use Rattle.records.specs.declared.Refusal.TheVariants.{NeedsTag, EarlierMemory, IsUndefined}
+use Rattle.std.specs.Prelude.{Result, Ok, Err}
+use Rattle.records.specs.declared.Refusal.{Refusal}
 use Rattle.value.specs.declared.Value.{Value}
 use Rattle.value.specs.declared.Value.TheVariants.{Undefined, Word}
 use Rattle.value.specs.Operation.{result_of}
@@ -69,32 +70,32 @@ stored m s = record { tags = s.tags; counter = s.counter; kept = s.kept; memory 
 abbrev pub keep : InstrAddr → Work → Way → Way
 keep a w s = record { tags = s.tags; counter = s.counter; kept = s.kept ++ ITB a w ∷ []; memory = s.memory }
 
-abbrev pub either : {A : Type 0} → (A → Way) → Way → Try A → Way
-either f other (got x) = f x
-either f other (fails n) = other
+abbrev pub either : {A : Type 0} → (A → Way) → Way → Result A Refusal → Way
+either f other (Ok x) = f x
+either f other (Err n) = other
 
-abbrev pub operated : ℕ → Operand → Operand → Try Value
-operated n (Known u) (Known v) = got (result_of n u v)
-operated n (Known u) (Waits t) = fails needs_tag
-operated n (Waits t) y = fails needs_tag
+abbrev pub operated : ℕ → Operand → Operand → Result Value Refusal
+operated n (Known u) (Known v) = Ok (result_of n u v)
+operated n (Known u) (Waits t) = Err NeedsTag
+operated n (Waits t) y = Err NeedsTag
 
-abbrev pub targeted : Operand → Try InstrAddr
+abbrev pub targeted : Operand → Result InstrAddr Refusal
 targeted (Known v) = target v
-targeted (Waits t) = fails needs_tag
+targeted (Waits t) = Err NeedsTag
 
-abbrev pub branched : InstrAddr → Operand → Operand → Try InstrAddr
-branched a (Known (Word w)) y = cond (eqb w 0) (targeted y) (got (next a))
-branched a (Known Undefined) y = fails is_undefined
-branched a (Waits t) y = fails needs_tag
+abbrev pub branched : InstrAddr → Operand → Operand → Result InstrAddr Refusal
+branched a (Known (Word w)) y = cond (eqb w 0) (targeted y) (Ok (next a))
+branched a (Known Undefined) y = Err IsUndefined
+branched a (Waits t) y = Err NeedsTag
 
-abbrev pub loaded : List Itb → List Value → Operand → Try Value
-loaded ts m (Known u) = cond (any_memory ts) (fails earlier_memory) (read_at m u)
-loaded ts m (Waits t) = fails needs_tag
+abbrev pub loaded : List Itb → List Value → Operand → Result Value Refusal
+loaded ts m (Known u) = cond (any_memory ts) (Err EarlierMemory) (read_at m u)
+loaded ts m (Waits t) = Err NeedsTag
 
-abbrev pub written : List Itb → List Value → Operand → Operand → Try (List Value)
-written ts m (Known u) (Known v) = cond (any_memory ts) (fails earlier_memory) (write_at m u v)
-written ts m (Known u) (Waits t) = fails needs_tag
-written ts m (Waits t) y = fails needs_tag
+abbrev pub written : List Itb → List Value → Operand → Operand → Result (List Value) Refusal
+written ts m (Known u) (Known v) = cond (any_memory ts) (Err EarlierMemory) (write_at m u v)
+written ts m (Known u) (Waits t) = Err NeedsTag
+written ts m (Waits t) y = Err NeedsTag
 
 -- with its operands put in
 abbrev pub now : InstrAddr → Work → Way → Way
@@ -126,9 +127,9 @@ pub settle-append : (xs ys : List Itb) (s : Way) → settle (xs ++ ys) s ≡ set
 settle-append [] ys s = refl
 settle-append (x ∷ xs) ys s = settle-append xs ys (turn x.address x.work s)
 
-either_on : {A : Type 0} (g : Way → Way) (f f' : A → Way) (o o' : Way) → ((x : A) → f' x ≡ g (f x)) → o' ≡ g o → (r : Try A) → either f' o' r ≡ g (either f o r)
-either_on g f f' o o' h k (got x) = h x
-either_on g f f' o o' h k (fails n) = k
+either_on : {A : Type 0} (g : Way → Way) (f f' : A → Way) (o o' : Way) → ((x : A) → f' x ≡ g (f x)) → o' ≡ g o → (r : Result A Refusal) → either f' o' r ≡ g (either f o r)
+either_on g f f' o o' h k (Ok x) = h x
+either_on g f f' o o' h k (Err n) = k
 
 makes-put : (e : Stands) (w : Work) → makes (put_work e w) ≡ makes w
 makes-put e (Done t v) = refl
@@ -157,9 +158,9 @@ module _ (t : Tag) (v : Value) where
   abbrev pub Has : Way → Type 0
   Has s = s.tags t ≡ Known v
 
-  has_either : {A : Type 0} (f : A → Way) (o : Way) → ((x : A) → Has (f x)) → Has o → (r : Try A) → Has (either f o r)
-  has_either f o h k (got x) = h x
-  has_either f o h k (fails n) = k
+  has_either : {A : Type 0} (f : A → Way) (o : Way) → ((x : A) → Has (f x)) → Has o → (r : Result A Refusal) → Has (either f o r)
+  has_either f o h k (Ok x) = h x
+  has_either f o h k (Err n) = k
 
   now_has : (a : InstrAddr) (w : Work) (s : Way) → same_tag (makes w) t ≡ false → Has s → Has (now a w s)
   now_has a (Done r u) s d h = bind_other t (Known v) s.tags r (Known u) h d
@@ -275,9 +276,9 @@ module _ (m : List Value) where
   still_keep : (a : InstrAddr) (w : Work) (s : Way) → is_memory w ≡ false → Still m s → Still m (keep a w s)
   still_keep a w s h k = record { clear = any_memory-append s.kept (ITB a w ∷ []) ∙ rw (k.clear, h); same = k.same }
 
-  still_either : {A : Type 0} (f : A → Way) (o : Way) → ((x : A) → Still m (f x)) → Still m o → (r : Try A) → Still m (either f o r)
-  still_either f o h k (got x) = h x
-  still_either f o h k (fails n) = k
+  still_either : {A : Type 0} (f : A → Way) (o : Way) → ((x : A) → Still m (f x)) → Still m o → (r : Result A Refusal) → Still m (either f o r)
+  still_either f o h k (Ok x) = h x
+  still_either f o h k (Err n) = k
 
   now_still : (a : InstrAddr) (w : Work) (s : Way) → is_memory w ≡ false → Still m s → Still m (now a w s)
   now_still a (Done t v) s h k = record { clear = k.clear; same = k.same }

@@ -30,7 +30,7 @@ use Rattle.inorder.specs.Entries as InOrder
 use Rattle.inorder.proofs.Stops.{Stops, once_stops}
 use Rattle.rules.specs.Moves.{Move, move, Refused, and_then, continued}
 use Rattle.rules.specs.Schedules.{obeyed, issues}
-use Rattle.demands.specs.Agrees.{valued, Agrees, Equal}
+use Rattle.demands.specs.Agrees.{valued, Equal}
 use Rattle.demands.specs.Memo.{Fetches}
 use Rattle.demands.specs.MemoBase.{Executes}
 use Rattle.demands.specs.Simulates.{itbl, tag_for, Rewrites, none, next, Theorem1, IssueAndDrain, Simulates}
@@ -125,8 +125,7 @@ module _ (prog : List Instr) (formed : AllFormed prog) where
     drained_equal =
         let d = drains τ m τ-sound.few in
         let g = on_accepted _ d.1.leaves (continued_keeps (length prog) d.0 τ m τ-sound) in
-        subst (λ (o : Run (List Register)). Agrees o (drain τ m).machine (drain τ m).memory) (g.0 ∙ τ-outcome)
-        (stuck_agrees (length prog) (drain τ m).machine (drain τ m).memory g.1 (drain_stuck τ m τ-sound.few))
+        rw (g.0 ∙ τ-outcome) at (stuck_agrees (length prog) (drain τ m).machine (drain τ m).memory g.1 (drain_stuck τ m τ-sound.few))
 
     pub issue_and_drain : IssueAndDrain prog s m s' m'
     issue_and_drain =
@@ -263,7 +262,7 @@ module _ (prog : List Instr) (formed : AllFormed prog) where
           → ((s' : InOrder) (m' : List Value) → Led prog (k + 1) s' m' (InOrder.run_from prog n s' (k + 1) m'))
           → Led prog k s m (InOrder.proceed (λ s' m'. InOrder.run_from prog n s' (k + 1) m') s k r)
       first (going rf ia m') e w rest = one_more k s (machine ia rf) m m' (InOrder.run_from prog n (machine ia rf) (k + 1) m') e (rest (machine ia rf) m')
-      first (stopped ia why m') e w rest = record { schedule = []; leads = ap (accepted (itbl s)) (sym w.2); issued = omega arith }
+      first (stopped ia why m') e w rest = record { schedule = []; leads = ap (accepted (itbl s)) (sym w.1); issued = omega arith }
 
   pub simulates : (m : List Value) (n : ℕ) → Simulates prog m n
   simulates m n =

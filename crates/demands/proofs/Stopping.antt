@@ -1,6 +1,6 @@
--- Demand 2's stops: a step of the in-order machine stops with n exactly when the first of its conditions that fails has the number n.
+-- Demand 2's stops: a step of the in-order machine stops with n exactly when the first of its conditions that fails has the refusal n.
 use Prim.Native.Nat.{ℕ}
-use mathlib.Core.Path.{◌≡◌, refl, ap, ap₂, subst, ◌∙◌}
+use mathlib.Core.Path.{◌≡◌, refl, ap, ap₂, ◌∙◌}
 use mathlib.Core.Logic.{◌↔◌, inl, inr}
 use mathlib.Core.Bool.{true, not, ◌||◌}
 use mathlib.Core.List.{List, [], ◌∷◌}
@@ -8,7 +8,8 @@ use mathlib.Core.Option.{Option, none, some}
 use lib.Dec.{eqb, ltb}
 use lib.ListN.{length, get_elem?}
 use borrow.Author.Tests.{lt-ltb, le-ltb}
-use Rattle.records.specs.Refusal.{no_instruction, is_undefined}
+use Rattle.records.specs.declared.Refusal.{Refusal}
+use Rattle.records.specs.declared.Refusal.TheVariants.{NoInstruction, IsUndefined}
 use Rattle.value.specs.declared.Value.{Value}
 use Rattle.value.specs.declared.Value.TheVariants.{Undefined, Word}
 use Rattle.isa.specs.declared.InstrAddr.{InstrAddr}
@@ -23,7 +24,7 @@ use Rattle.inorder.specs.declared.Register.{Register}
 use Rattle.inorder.specs.declared.InOrder.{InOrder}
 use Rattle.inorder.specs.Machine.{held, put, perform, step, once}
 use Rattle.records.proofs.Leading.{found_inside}
-use Rattle.inorder.proofs.Stops.{Stops, once_stops}
+use Rattle.inorder.proofs.Stops.{once_stops}
 use Rattle.demands.specs.Conditions.{Condition, ◌else◌, AllHold, FirstFails, is_defined, is_not_zero, is_there, address, to_execute, fetched, step_conditions}
 use Rattle.demands.proofs.Conditions.{never_both, only_one, is_past}
 
@@ -34,16 +35,16 @@ Says (stopped ia n m) cs = FirstFails n cs
 
 module _ (ia : InstrAddr) (rf : List Register) (m : List Value) where
   target_says : (w : ℕ) (v : Value) → eqb w 0 ≡ true
-      → Says (attempt ia m (λ to. going rf to m) (target v)) ((true else is_undefined) ∷ (not (eqb w 0) || is_defined v else is_undefined) ∷ [])
+      → Says (attempt ia m (λ to. going rf to m) (target v)) ((true else IsUndefined) ∷ (not (eqb w 0) || is_defined v else IsUndefined) ∷ [])
   target_says w Undefined z = inr (refl, inl (rw z refl, refl))
   target_says w (Word nia) z = (refl, (rw z refl, tt))
 
   jz_says : (u v : Value)
-      → Says (attempt ia m (λ to. going rf to m) (branch ia u v)) ((is_defined u else is_undefined) ∷ (is_not_zero u || is_defined v else is_undefined) ∷ [])
+      → Says (attempt ia m (λ to. going rf to m) (branch ia u v)) ((is_defined u else IsUndefined) ∷ (is_not_zero u || is_defined v else IsUndefined) ∷ [])
   jz_says Undefined v = inl (refl, refl)
   jz_says (Word w) v =
       by_test
-      (λ t. Says (attempt ia m (λ to. going rf to m) t) ((true else is_undefined) ∷ (not (eqb w 0) || is_defined v else is_undefined) ∷ []))
+      (λ t. Says (attempt ia m (λ to. going rf to m) t) ((true else IsUndefined) ∷ (not (eqb w 0) || is_defined v else IsUndefined) ∷ []))
       (eqb w 0) (target_says w v) (λ z. (refl, (rw z refl, tt)))
 
   loaded_says : (r : Reg) (w : ℕ) (o : Option Value) → get_elem? m w ≡ o
@@ -70,11 +71,11 @@ module _ (ia : InstrAddr) (rf : List Register) (m : List Value) where
   perform_says (Load r r₁) = load_says r (held rf r₁)
   perform_says (Store r₁ r₂) = store_says (held rf r₁) (held rf r₂)
 
-  one_more : (t : Run (List Register)) (cs : List Condition) → Says t cs → Says t ((true else no_instruction) ∷ cs)
+  one_more : (t : Run (List Register)) (cs : List Condition) → Says t cs → Says t ((true else NoInstruction) ∷ cs)
   one_more (going rf' ia' m') cs h = (refl, h)
   one_more (stopped ia' n m') cs h = inr (refl, h)
 
-  fetched_says : (o : Option Instr) → Says (attempt ia m (perform rf ia m) (present o)) ((is_there o else no_instruction) ∷ fetched rf m o)
+  fetched_says : (o : Option Instr) → Says (attempt ia m (perform rf ia m) (present o)) ((is_there o else NoInstruction) ∷ fetched rf m o)
   fetched_says none = inl (refl, refl)
   fetched_says (some i) = one_more (perform rf ia m i) (to_execute rf m i) (perform_says i)
 
@@ -85,13 +86,13 @@ module _ (prog : List Instr) (s : InOrder) (m : List Value) where
   unfolding step
   once_says = fetched_says s.counter s.registers m (get_elem? prog s.counter.0)
 
-  pub stopped_first : (n : ℕ) → (once prog s m ≡ stopped s.counter n m) ↔ FirstFails n (step_conditions prog s m)
-  stopped_first n = (λ e. subst (λ t. Says t (step_conditions prog s m)) e once_says, back (once prog s m) refl once_says)
+  pub stopped_first : (n : Refusal) → (once prog s m ≡ stopped s.counter n m) ↔ FirstFails n (step_conditions prog s m)
+  stopped_first n = (λ e. rw e at once_says, back (once prog s m) refl once_says)
     where
       back : (t : Run (List Register)) → once prog s m ≡ t → Says t (step_conditions prog s m) → FirstFails n (step_conditions prog s m)
           → t ≡ stopped s.counter n m
       back (going rf ia m') e h f = absurd (never_both (step_conditions prog s m) n h f)
       back (stopped ia k m') e h f =
-          let at = subst (Stops s.counter m) e (once_stops prog s m) in
-          ap (λ (i : ℕ). stopped ia i m') (only_one (step_conditions prog s m) k n h f)
-          ∙ ap₂ (λ (b : InstrAddr) (l : List Value). stopped b n l) at.1 at.2
+          let at = rw e at (once_stops prog s m) in
+          ap (λ (i : Refusal). stopped ia i m') (only_one (step_conditions prog s m) k n h f)
+          ∙ ap₂ (λ (b : InstrAddr) (l : List Value). stopped b n l) at.0 at.1

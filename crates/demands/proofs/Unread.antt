@@ -2,7 +2,8 @@
 use mathlib.Core.Path.{◌≡◌, refl, ap, ap₂, ◌∙◌}
 use mathlib.Core.Bool.{false}
 use mathlib.Core.List.{List, [], ◌∷◌}
-use Rattle.records.specs.Try.{Try, got, fails}
+use Rattle.std.specs.Prelude.{Result, Ok, Err}
+use Rattle.records.specs.declared.Refusal.{Refusal}
 use Rattle.value.specs.declared.Value.{Value}
 use Rattle.value.specs.Operation.{result_of}
 use Rattle.isa.specs.declared.InstrAddr.{InstrAddr}
@@ -35,10 +36,10 @@ module _ (t : Tag) (v : Value) where
   resolve-given e (Known u) h = refl
   resolve-given e (Waits s) h = rw h
 
-  attempt-given : {A : Type 0} (a : InstrAddr) (m : List Value) (f g : A → Run Env) → ((x : A) → f x ≡ given (g x)) → (r : Try A)
+  attempt-given : {A : Type 0} (a : InstrAddr) (m : List Value) (f g : A → Run Env) → ((x : A) → f x ≡ given (g x)) → (r : Result A Refusal)
       → attempt a m f r ≡ given (attempt a m g r)
-  attempt-given a m f g h (got x) = h x
-  attempt-given a m f g h (fails n) = refl
+  attempt-given a m f g h (Ok x) = h x
+  attempt-given a m f g h (Err n) = refl
 
   execute-given : (a : InstrAddr) (w : Work) (r : Run Env) → holds t w ≡ false → same_tag (makes w) t ≡ false → execute a w (given r) ≡ given (execute a w r)
   execute-given a w (stopped b n m) h d = refl

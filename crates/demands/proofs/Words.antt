@@ -14,7 +14,8 @@ use mir.Val.{of_z}
 use mir.Facts.{sfits_to_z}
 use Rattle.records.specs.declared.Record.{Record}
 use Rattle.records.specs.Records.{record_from, tabulate, records}
-use Rattle.records.specs.Try.{Try, got, fails}
+use Rattle.std.specs.Prelude.{Result, Ok, Err}
+use Rattle.records.specs.declared.Refusal.{Refusal}
 use Rattle.records.proofs.Basics.{same_some, some_not_none}
 use Rattle.value.specs.declared.Value.{Value}
 use Rattle.value.specs.declared.Value.TheVariants.{Undefined, Word}
@@ -210,7 +211,7 @@ module _ (σ : Mach) (m : List Value) (rf : AllOf InRegister σ.registers) (l : 
   words_cases : Cases σ m pre a post (λ w r. Was w → OnStep HoldWords r)
   words_cases =
       record {
-        refuses = λ w n e h. tt;
+        refuses = λ w n h. tt;
         operates = λ t n u v h.
             let w = Op t n (Known u) (Known v) in
             record { registers = rf; templates = with-work w (Done t (result_of n u v)) post h (result-word n u v (here w h).0 (here w h).1) (back w h); memory = l };
@@ -342,9 +343,9 @@ constant_word r (Instr.Jz r₁ r₂) e h = tt
 constant_word r (Instr.Load q r₁) e h = tt
 constant_word r (Instr.Store r₁ r₂) e h = tt
 
-leads_words : (t : Try Instr) (is : List Instr) → ((i : Instr) → t ≡ got i → InInstr i) → AllOf InInstr is → AllOf InInstr (leads t is)
-leads_words (got i) is h g = (h i refl, g)
-leads_words (fails n) is h g = tt
+leads_words : (t : Result Instr Refusal) (is : List Instr) → ((i : Instr) → t ≡ Ok i → InInstr i) → AllOf InInstr is → AllOf InInstr (leads t is)
+leads_words (Ok i) is h g = (h i refl, g)
+leads_words (Err n) is h g = tt
 
 instructions_words : (rs : List Record) → AllOf (λ (r : Record). r.word < 2 ^ 32) rs → AllOf InInstr (instructions rs)
 instructions_words [] h = tt

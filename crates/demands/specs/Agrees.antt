@@ -1,6 +1,8 @@
 -- When a machine that can do nothing but issue agrees with a run of the in-order machine.
-use Rattle.std.specs.Prelude.{ℕ, ◌≤◌, ◌<◌, ◌≡◌, ◌⊎◌, true, ◌||◌, List, [], ◌∷◌, map}
-use Rattle.records.specs.Refusal.{is_undefined, outside}
+use Rattle.std.specs.Prelude.{ℕ, ◌≤◌, ◌<◌, ◌≡◌, ◌⊎◌, true, ◌||◌, List, [], ◌∷◌, map, Err}
+use Rattle.records.specs.declared.Refusal.{Refusal}
+use Rattle.records.specs.declared.Refusal.TheVariants.{IsUndefined, Outside}
+use Rattle.records.specs.Refusal.{fault}
 use Rattle.value.specs.declared.Value.{Value}
 use Rattle.isa.specs.declared.InstrAddr.{InstrAddr}
 use Rattle.kernel.specs.Kernel.{Run, going, stopped}
@@ -26,15 +28,15 @@ pub record Equal (rf : List InOrderRegister) (ia : InstrAddr) (m' : List Value) 
   pub registers : σ.registers ≡ map valued rf
   pub memory : m ≡ m'
 
--- it stopped at ia, for a reason, with memory m': the oldest template is a Load, a Store or a Jz from there, and it is refused with that reason, 16 or 17
-pub record Blocked (ia : InstrAddr) (why : ℕ) (m' : List Value) (σ : Mach) (m : List Value) : Type 0 where
+-- it stopped at ia, for a reason, with memory m': the oldest template is a Load, a Store or a Jz from there, and it is refused for that reason
+pub record Blocked (ia : InstrAddr) (why : Refusal) (m' : List Value) (σ : Mach) (m : List Value) : Type 0 where
   pub oldest : Itb
   pub later : List Itb
   pub held : σ.held ≡ oldest ∷ later
   pub kind : (is_memory oldest.work || is_jz oldest.work) ≡ true
   pub address : oldest.address ≡ ia
   pub refusal : apply (asks oldest.work) 0 σ m ≡ refused why
-  pub reason : (why ≡ is_undefined) ⊎ (why ≡ outside)
+  pub reason : (why ≡ IsUndefined) ⊎ (why ≡ Outside)
   pub memory : m ≡ m'
 
 abbrev pub Agrees : Run (List InOrderRegister) → Mach → List Value → Type 0
@@ -45,4 +47,4 @@ Agrees (stopped ia why m') σ m = Blocked ia why m' σ m
 pub record AgreesWith (n : ℕ) (run : InOrder.End) (σ : Mach) (m : List Value) : Type 0 where
   pub within : run.executed ≤ n
   pub went : run.executed ≡ n → Equal run.machine.registers run.machine.counter run.memory σ m
-  pub halted : run.executed < n → Blocked run.machine.counter run.stop run.memory σ m
+  pub halted : run.executed < n → (why : Refusal) × (run.stop ≡ Err (fault why 0)) × Blocked run.machine.counter why run.memory σ m

@@ -1,8 +1,9 @@
--- What each command, and each step of the in-order machine, needs, in the scope paper's order, each condition with the number for no that is given when it is the first to fail.
-use Rattle.std.specs.Prelude.{◌≡◌, ◌⊎◌, ℕ, suc, Bool, true, false, ◌&&◌, ◌||◌, not, List, [], ◌∷◌, eqb, ltb, length, get_or, take, drop}
+-- What each command, and each step of the in-order machine, needs, in the scope paper's order, each condition with the refusal that is given when it is the first to fail.
+use Rattle.std.specs.Prelude.{◌≡◌, ◌⊎◌, suc, Bool, true, false, ◌&&◌, ◌||◌, not, List, [], ◌∷◌, eqb, ltb, length, get_or, take, drop}
 use Rattle.std.proofs.Math.Option.{Option, none, some}
 use Rattle.std.proofs.Math.ListN.{get_elem?}
-use Rattle.records.specs.Refusal.{bad_schedule, no_instruction, stalled, full, bad_tag, no_template, other_kind, needs_tag, not_held, still_held, earlier_memory, is_undefined, outside, other_way}
+use Rattle.records.specs.declared.Refusal.{Refusal}
+use Rattle.records.specs.declared.Refusal.TheVariants.{BadSchedule, NoInstruction, Stalled, Full, BadTag, NoTemplate, OtherKind, NeedsTag, NotHeld, StillHeld, EarlierMemory, IsUndefined, Outside, OtherWay}
 use Rattle.value.specs.declared.Value.{Value}
 use Rattle.value.specs.declared.Value.TheVariants.{Undefined, Word}
 use Rattle.value.specs.Operation.{undefined}
@@ -29,21 +30,21 @@ use Rattle.inorder.specs.Machine.{held}
 
 pub record Condition : Type 0 where
   pub holds : Bool
-  pub number : ℕ
+  pub refusal : Refusal
 
--- it holds, or this is the number for no
+-- it holds, or this is the refusal
 infix 20 ◌else◌
-abbrev pub ◌else◌ : Bool → ℕ → Condition
-b else n = record { holds = b; number = n }
+abbrev pub ◌else◌ : Bool → Refusal → Condition
+b else n = record { holds = b; refusal = n }
 
 abbrev pub AllHold : List Condition → Type 0
 AllHold [] = Unit
 AllHold (c ∷ cs) = (c.holds ≡ true) × AllHold cs
 
--- the first that fails has the number n
-abbrev pub FirstFails : ℕ → List Condition → Type 0
+-- the first that fails has the refusal n
+abbrev pub FirstFails : Refusal → List Condition → Type 0
 FirstFails n [] = ⊥
-FirstFails n (c ∷ cs) = ((c.holds ≡ false) × (c.number ≡ n)) ⊎ ((c.holds ≡ true) × FirstFails n cs)
+FirstFails n (c ∷ cs) = ((c.holds ≡ false) × (c.refusal ≡ n)) ⊎ ((c.holds ≡ true) × FirstFails n cs)
 
 -- ---- operands
 
@@ -114,37 +115,37 @@ module _ (σ : Mach) (m : List Value) (pre post : List Itb) (w : Work) where
   second = operand_at w 1
 
   abbrev pub needs : Rule → List Condition
-  needs Rule.Operate = (is_op w else other_kind) ∷ (is_known first && is_known second else needs_tag) ∷ []
-  needs Rule.Forward = (is_value w else other_kind) ∷ (any_holds (makes w) post else not_held) ∷ []
-  needs Rule.Commit = (is_value w else other_kind) ∷ (any_reg (makes w) σ.registers else not_held) ∷ []
-  needs Rule.Retire = (is_value w else other_kind) ∷ (not (any_reg (makes w) σ.registers || any_holds (makes w) post) else still_held) ∷ []
+  needs Rule.Operate = (is_op w else OtherKind) ∷ (is_known first && is_known second else NeedsTag) ∷ []
+  needs Rule.Forward = (is_value w else OtherKind) ∷ (any_holds (makes w) post else NotHeld) ∷ []
+  needs Rule.Commit = (is_value w else OtherKind) ∷ (any_reg (makes w) σ.registers else NotHeld) ∷ []
+  needs Rule.Retire = (is_value w else OtherKind) ∷ (not (any_reg (makes w) σ.registers || any_holds (makes w) post) else StillHeld) ∷ []
   needs Rule.Load =
-      (is_load w else other_kind)
-      ∷ (not (any_memory pre) else earlier_memory)
-      ∷ (is_known first else needs_tag)
-      ∷ (is_defined (value_in first) else is_undefined)
-      ∷ (is_within m (value_in first) else outside)
+      (is_load w else OtherKind)
+      ∷ (not (any_memory pre) else EarlierMemory)
+      ∷ (is_known first else NeedsTag)
+      ∷ (is_defined (value_in first) else IsUndefined)
+      ∷ (is_within m (value_in first) else Outside)
       ∷ []
   needs Rule.Store =
-      (is_store w else other_kind)
-      ∷ (not (any_memory pre) else earlier_memory)
-      ∷ (is_known first && is_known second else needs_tag)
-      ∷ (is_defined (value_in first) else is_undefined)
-      ∷ (is_within m (value_in first) else outside)
+      (is_store w else OtherKind)
+      ∷ (not (any_memory pre) else EarlierMemory)
+      ∷ (is_known first && is_known second else NeedsTag)
+      ∷ (is_defined (value_in first) else IsUndefined)
+      ∷ (is_within m (value_in first) else Outside)
       ∷ []
   needs Rule.Jump =
-      (is_jz w else other_kind)
-      ∷ (is_known first else needs_tag)
-      ∷ (is_defined (value_in first) else is_undefined)
-      ∷ (is_zero (value_in first) else other_way)
-      ∷ (is_known second else needs_tag)
-      ∷ (is_defined (value_in second) else is_undefined)
+      (is_jz w else OtherKind)
+      ∷ (is_known first else NeedsTag)
+      ∷ (is_defined (value_in first) else IsUndefined)
+      ∷ (is_zero (value_in first) else OtherWay)
+      ∷ (is_known second else NeedsTag)
+      ∷ (is_defined (value_in second) else IsUndefined)
       ∷ []
   needs Rule.NoJump =
-      (is_jz w else other_kind)
-      ∷ (is_known first else needs_tag)
-      ∷ (is_defined (value_in first) else is_undefined)
-      ∷ (is_not_zero (value_in first) else other_way)
+      (is_jz w else OtherKind)
+      ∷ (is_known first else NeedsTag)
+      ∷ (is_defined (value_in first) else IsUndefined)
+      ∷ (is_not_zero (value_in first) else OtherWay)
       ∷ []
 
 -- ---- issue
@@ -168,22 +169,22 @@ tag_fits itbs t none = false
 -- ---- a command
 
 abbrev pub conditions : List Instr → Command → Mach → List Value → List Condition
-conditions prog Malformed σ m = (false else bad_schedule) ∷ []
+conditions prog Malformed σ m = (false else BadSchedule) ∷ []
 conditions prog (Issue t) σ m =
-    (is_address σ.counter else stalled)
-    ∷ (is_there (instr_at prog σ.counter) else no_instruction)
-    ∷ (ltb (length σ.held) room else full)
-    ∷ (tag_fits σ.held t (instr_at prog σ.counter) else bad_tag)
+    (is_address σ.counter else Stalled)
+    ∷ (is_there (instr_at prog σ.counter) else NoInstruction)
+    ∷ (ltb (length σ.held) room else Full)
+    ∷ (tag_fits σ.held t (instr_at prog σ.counter) else BadTag)
     ∷ []
 conditions prog (Apply r k) σ m =
-    (ltb k (length σ.held) else no_template)
+    (ltb k (length σ.held) else NoTemplate)
     ∷ needs σ m (take k σ.held) (drop (suc k) σ.held) (get_or σ.held k nothing).work r
 
 -- ---- a step of the in-order machine
 
 module _ (rf : List Register) (m : List Value) where
   abbrev pub address : Value → List Condition
-  address v = (is_defined v else is_undefined) ∷ (is_within m v else outside) ∷ []
+  address v = (is_defined v else IsUndefined) ∷ (is_within m v else Outside) ∷ []
 
   -- a taken Jz needs its target
   abbrev pub to_execute : Instr → List Condition
@@ -191,8 +192,8 @@ module _ (rf : List Register) (m : List Value) where
   to_execute (Instr.Loadpc r) = []
   to_execute (Instr.Op r n r₁ r₂) = []
   to_execute (Instr.Jz r₁ r₂) =
-      (is_defined (held rf r₁) else is_undefined)
-      ∷ (is_not_zero (held rf r₁) || is_defined (held rf r₂) else is_undefined)
+      (is_defined (held rf r₁) else IsUndefined)
+      ∷ (is_not_zero (held rf r₁) || is_defined (held rf r₂) else IsUndefined)
       ∷ []
   to_execute (Instr.Load r r₁) = address (held rf r₁)
   to_execute (Instr.Store r₁ r₂) = address (held rf r₁)
@@ -204,4 +205,4 @@ module _ (rf : List Register) (m : List Value) where
 abbrev pub step_conditions : List Instr → InOrder → List Value → List Condition
 step_conditions prog s m =
     let i = get_elem? prog s.counter.0 in
-    (is_there i else no_instruction) ∷ fetched s.registers m i
+    (is_there i else NoInstruction) ∷ fetched s.registers m i

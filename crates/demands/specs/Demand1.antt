@@ -1,5 +1,8 @@
 -- Demand 1: an entry that is refused leaves the machine, memory and every other buffer that it was lent as they were.
-use Rattle.std.specs.Prelude.{◌≡◌, ◌≢◌, ℕ, ◌*◌, ◌<◌, false, List, get_or, take}
+use Rattle.std.specs.Prelude.{◌≡◌, ℕ, ◌*◌, ◌<◌, false, List, get_or, take, Result, IsErr}
+use Rattle.records.specs.declared.Refusal.{Refusal}
+use Rattle.records.specs.declared.Fault.{Fault}
+use Rattle.records.specs.Scan.{accepted}
 use Rattle.value.specs.declared.Value.{Value}
 use Rattle.isa.specs.declared.DataAddr.{DataAddr}
 use Rattle.isa.specs.declared.Instr.{Instr}
@@ -7,7 +10,6 @@ use Rattle.isa.specs.Program.{Wrote}
 use Rattle.cells.specs.Cells.{Stores}
 use Rattle.kernel.specs.Kernel.{Writes}
 use Rattle.kernel.specs.Checks.{checked}
-use Rattle.listing.specs.declared.Listed.{Listed}
 use Rattle.listing.specs.Listing.{Lists}
 use Rattle.inorder.specs.declared.InOrder.{InOrder}
 use Rattle.inorder.specs.declared.Stepped.{Stepped as InOrderStepped}
@@ -19,7 +21,6 @@ use Rattle.renaming.specs.declared.Ran.{Ran}
 use Rattle.renaming.specs.declared.Settled.{Settled}
 use Rattle.entry.specs.Entry.{entered}
 use Rattle.renaming.specs.Entries.{entered_run, Steps, Runs, Drains}
-use Rattle.report.specs.declared.Reported.{Reported}
 use Rattle.report.specs.Report.{is_fit, Reports, Shows}
 
 -- every element of a lent buffer is a byte
@@ -29,35 +30,34 @@ AreBytes b = (i : ℕ) → get_or b i 0 < 256
 -- whatever an entry answers, by its promise
 pub record Demand1 : Type 0 where
   -- the renaming machine: a step that is refused, by the checks or by the rule
-  pub step : (p : List ℕ) (s : State) (b one : List ℕ) → AreBytes b → (r : Stepped) (b' : List ℕ) → Steps p s b one r b' → r.refusal ≢ 0
+  pub step : (p : List ℕ) (s : State) (b one : List ℕ) → AreBytes b → (r : Stepped) (b' : List ℕ) → Steps p s b one r b' → IsErr r.verdict
       → (r.state ≡ s) × (b' ≡ b)
   -- a run that is refused by the checks
-  pub run : (p : List ℕ) (s : State) (b records : List ℕ) (r : Ran) (b' : List ℕ) → Runs p s b records r b' → (entered_run p b s records).refusal ≢ 0
-      → (r.refusal ≢ 0) × (r.state ≡ s) × (r.accepted ≡ 0) × (r.issued ≡ 0) × (b' ≡ b)
+  pub run : (p : List ℕ) (s : State) (b records : List ℕ) (r : Ran) (b' : List ℕ) → Runs p s b records r b' → IsErr (entered_run p b s records)
+      → (r.verdict ≡ entered_run p b s records) × (r.state ≡ s) × (r.accepted ≡ 0) × (r.issued ≡ 0) × (b' ≡ b)
   -- a run that passes the checks leaves what the run of its accepted records alone leaves, and that one isn't refused
-  pub part : (p : List ℕ) (s : State) (b records : List ℕ) (r : Ran) (b' : List ℕ) → Runs p s b records r b' → (entered_run p b s records).refusal ≡ 0
-      → Runs p s b (take (4 * r.accepted) records) (record { state = r.state; accepted = r.accepted; issued = r.issued; refusal = 0; number = 0 }) b'
+  pub part : (p : List ℕ) (s : State) (b records : List ℕ) (r : Ran) (b' : List ℕ) → Runs p s b records r b' → entered_run p b s records ≡ accepted
+      → Runs p s b (take (4 * r.accepted) records) (record { state = r.state; accepted = r.accepted; issued = r.issued; verdict = accepted }) b'
   -- a drain that is refused by the checks
-  pub drain : (p : List ℕ) (s : State) (b : List ℕ) (r : Settled) (b' : List ℕ) → Drains p s b r b' → (entered p b s).refusal ≢ 0
-      → (r.refusal ≢ 0) × (r.state ≡ s) × (r.rules ≡ 0) × (b' ≡ b)
+  pub drain : (p : List ℕ) (s : State) (b : List ℕ) (r : Settled) (b' : List ℕ) → Drains p s b r b' → IsErr (entered p b s)
+      → (r.verdict ≡ entered p b s) × (r.state ≡ s) × (r.rules ≡ 0) × (b' ≡ b)
   -- the in-order machine: a step that is refused or stops
-  pub in_order_step : (p : List ℕ) (s : InOrder) (b : List ℕ) → AreBytes b → (r : InOrderStepped) (b' : List ℕ) → InOrder.Steps p s b r b' → r.stop ≢ 0
+  pub in_order_step : (p : List ℕ) (s : InOrder) (b : List ℕ) → AreBytes b → (r : InOrderStepped) (b' : List ℕ) → InOrder.Steps p s b r b' → IsErr r.stop
       → (r.machine ≡ s) × (b' ≡ b)
   -- a run that is refused by the checks
   pub in_order_run : (p : List ℕ) (s : InOrder) (b : List ℕ) (budget : ℕ) (r : InOrderRan) (b' : List ℕ) → InOrder.Runs p s b budget r b'
-      → (checked p b).refusal ≢ 0 → (r.stop ≢ 0) × (r.machine ≡ s) × (r.executed ≡ 0) × (b' ≡ b)
+      → IsErr (checked p b) → (r.stop ≡ checked p b) × (r.machine ≡ s) × (r.executed ≡ 0) × (b' ≡ b)
   -- an instruction that isn't written
-  pub write : (i : Instr) (out : List ℕ) (r : ℕ) (out' : List ℕ) → Wrote i out r out' → r ≢ 0 → out' ≡ out
+  pub write : (i : Instr) (out : List ℕ) (r : Result Unit Refusal) (out' : List ℕ) → Wrote i out r out' → IsErr r → out' ≡ out
   -- a listing that isn't written
-  pub list : (p out : List ℕ) (r : Listed) (out' : List ℕ) → Lists p out r out' → r.refusal ≢ 0 → (out' ≡ out) × (r.written ≡ 0)
+  pub list : (p out : List ℕ) (r : Result ℕ Fault) (out' : List ℕ) → Lists p out r out' → IsErr r → out' ≡ out
   -- a cell outside memory
-  pub store : (b : List ℕ) (a : DataAddr) (v : Value) (r : ℕ) (b' : List ℕ) → Stores b a v r b' → r ≢ 0 → b' ≡ b
+  pub store : (b : List ℕ) (a : DataAddr) (v : Value) (r : Result Unit Refusal) (b' : List ℕ) → Stores b a v r b' → IsErr r → b' ≡ b
   -- an address that is undefined, or outside memory
-  pub write_at : (b : List ℕ) (a v : Value) (r : ℕ) (b' : List ℕ) → Writes b a v r b' → r ≢ 0 → b' ≡ b
+  pub write_at : (b : List ℕ) (a v : Value) (r : Result Unit Refusal) (b' : List ℕ) → Writes b a v r b' → IsErr r → b' ≡ b
   -- a report that isn't written: nothing was run
-  pub report : (p b s out : List ℕ) (r : Reported) (b' out' : List ℕ) → Reports p b s out r b' out' → r.refusal ≢ 0
-      → (b' ≡ b) × (out' ≡ out) × (r.written ≡ 0)
+  pub report : (p b s out : List ℕ) (r : Result ℕ Refusal) (b' out' : List ℕ) → Reports p b s out r b' out' → IsErr r → (b' ≡ b) × (out' ≡ out)
   -- a report on a file that is refused: nothing was run
-  pub input : (p b s out : List ℕ) (r : Reported) (b' out' : List ℕ) → Reports p b s out r b' out' → is_fit p b s ≡ false → b' ≡ b
+  pub input : (p b s out : List ℕ) (r : Result ℕ Refusal) (b' out' : List ℕ) → Reports p b s out r b' out' → is_fit p b s ≡ false → b' ≡ b
   -- a machine's contents that aren't written
-  pub contents : (s : State) (b out : List ℕ) (r : Reported) (out' : List ℕ) → Shows s b out r out' → r.refusal ≢ 0 → (out' ≡ out) × (r.written ≡ 0)
+  pub contents : (s : State) (b out : List ℕ) (r : Result ℕ Refusal) (out' : List ℕ) → Shows s b out r out' → IsErr r → out' ≡ out

@@ -1,5 +1,5 @@
 -- Demand 3: a schedule from the start, then rules other than issue in any order, and the in-order machine.
-use Rattle.std.specs.Prelude.{◌*◌, ◌≤◌, ◌≡◌, List, length}
+use Rattle.std.specs.Prelude.{◌*◌, ◌≤◌, ◌≡◌, List, length, Ok}
 use Rattle.value.specs.declared.Value.{Value}
 use Rattle.isa.specs.declared.Instr.{Instr}
 use Rattle.templates.specs.Machine.{Mach, start}
@@ -31,7 +31,7 @@ module _ (prog : List Instr) (m : List Value) (cs : List Command) where
   -- if the schedule leads to a machine and a memory, in the sense given, the run accepts all of it and ends there
   abbrev pub AcceptedIf : (Mach → List Value → Type 0) → Type 0
   AcceptedIf Leads = (σ : Mach) (m' : List Value) → Leads σ m'
-      → there ≡ record { accepted = length cs; issued = issues cs; refusal = 0; machine = σ; memory = m' }
+      → there ≡ record { accepted = length cs; issued = issues cs; verdict = Ok tt; machine = σ; memory = m' }
 
   pub record Demand3 : Type 0 where
     -- the run accepts as much of the schedule as is allowed

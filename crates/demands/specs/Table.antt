@@ -1,7 +1,7 @@
 -- The scope paper's examples P1 to P12, as one table of cases over the definitions.
-use Rattle.std.specs.Prelude.{◌≡◌, ℕ, true, List, [], ◌∷◌, length}
-use Rattle.records.specs.Refusal.{bad_instruction, still_held, earlier_memory}
-use Rattle.records.specs.Try.{Try, got, fails}
+use Rattle.std.specs.Prelude.{◌≡◌, ℕ, true, List, [], ◌∷◌, length, Result, Ok, Err}
+use Rattle.records.specs.declared.Refusal.TheVariants.{BadInstruction, StillHeld, EarlierMemory}
+use Rattle.records.specs.declared.Refusal.{Refusal}
 use Rattle.value.specs.declared.Value.{Value}
 use Rattle.value.specs.declared.Value.TheVariants.{Word}
 use Rattle.value.specs.Operation.{undefined, result_of}
@@ -30,7 +30,7 @@ pub data Case : Type 0 where
   -- an operation of two values, and its result
   computes : ℕ → Value → Value → Value → Case
   -- an instruction record's bytes, and what they are read as
-  reads : List ℕ → Try Instr → Case
+  reads : List ℕ → Result Instr Refusal → Case
   -- a schedule's command, with a program, a machine and a memory, and what it does
   obeys : List Instr → Command → Mach → List Value → Step → Case
 
@@ -77,9 +77,9 @@ table =
     -- P6 Mul
     computes 2 (Word 65536) (Word 65536) (Word 0) ∷
     -- P7
-    reads (1 ∷ 1 ∷ 0 ∷ 0 ∷ 6 ∷ 0 ∷ 0 ∷ 0 ∷ []) (got (Instr.Loadc (reg 1) 6)) ∷
+    reads (1 ∷ 1 ∷ 0 ∷ 0 ∷ 6 ∷ 0 ∷ 0 ∷ 0 ∷ []) (Ok (Instr.Loadc (reg 1) 6)) ∷
     -- P8
-    reads (1 ∷ 1 ∷ 1 ∷ 0 ∷ 6 ∷ 0 ∷ 0 ∷ 0 ∷ []) (fails bad_instruction) ∷
+    reads (1 ∷ 1 ∷ 1 ∷ 0 ∷ 6 ∷ 0 ∷ 0 ∷ 0 ∷ []) (Err BadInstruction) ∷
     -- P9 r1 := Add(r1,r1) with tag 1: t1 := Add(5,5), and r1 holds t1
     obeys (Instr.Op (reg 1) 0 (reg 1) (reg 1) ∷ [])
     (Issue (tag 1))
@@ -91,13 +91,13 @@ table =
     (Apply Rule.Retire 0)
     (mach (At (instr_addr 1)) (r1 (Waits (tag 1))) (from 0 (Done (tag 1) (Word 6)) ∷ []))
     []
-    (refused still_held) ∷
+    (refused StillHeld) ∷
     -- P11 r1 := Load(r3) after Store(r2,r1), which waits; both addresses are 0
     obeys (Instr.Store (reg 2) (reg 1) ∷ Instr.Load (reg 1) (reg 3) ∷ [])
     (Apply Rule.Load 1)
     (mach (At (instr_addr 2)) (r1 (Waits (tag 1))) (from 0 (Store (word 0) (word 5)) ∷ from 1 (Load (tag 1) (word 0)) ∷ []))
     (undefined ∷ [])
-    (refused earlier_memory) ∷
+    (refused EarlierMemory) ∷
     -- P12 no-jump on Jz(7, t1): the target is still a tag
     obeys (Instr.Loadc (reg 1) 6 ∷ Instr.Jz (reg 2) (reg 1) ∷ [])
     (Apply Rule.NoJump 1)
