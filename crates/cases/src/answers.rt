@@ -1,4 +1,5 @@
 // What a case answers, by its kind.
+use crate::show::Show;
 use crate::{bytes, show, states};
 use inorder::InOrder;
 use isa::{DataAddr, InstrAddr};
@@ -8,23 +9,23 @@ use templates::State;
 
 fn report(rt: &impl Print, program: &[u8], memory: &mut [u8], schedule: &[u8]) -> io::Result<()> {
     let mut out = [0u8; report::ROOM];
-    let r = report::report(program, memory, schedule, &mut out);
-    show::put(rt, bytes::first(&out, r.written))
+    let Ok(n) = report::report(program, memory, schedule, &mut out) else {
+        return Ok(());
+    };
+    rt.write_all(&out[..n])
 }
 
 fn in_order(rt: &impl Print, program: &[u8], memory: &mut [u8], budget: u32) -> io::Result<()> {
     let ran = InOrder::start().run(program, memory, budget);
-    let machine = ran.machine;
-    show::executed(rt, ran.executed, ran.stop, ran.number)?;
-    show::contents(rt, states::of_machine(machine), &memory[..])
+    println!(rt; "executed {} stop {}", ran.executed, Show(ran.stop))?;
+    show::contents(rt, states::of_machine(ran.machine), memory)
 }
 
 fn drain(rt: &impl Print, program: &[u8], memory: &mut [u8], state: State) -> io::Result<()> {
     let settled = renaming::drain(state, program, memory);
-    let last = settled.state;
-    let address = settled.address;
-    show::drained(rt, settled.rules, address, settled.refusal, settled.number)?;
-    show::state(rt, last, &memory[..])
+    print!(rt; "drained {} address {}", settled.rules, settled.address.0)?;
+    println!(rt; " refused {}", Show(settled.verdict))?;
+    show::state(rt, settled.state, memory)
 }
 
 fn run_and_drain(
@@ -35,24 +36,10 @@ fn run_and_drain(
     given: &[u8],
 ) -> io::Result<()> {
     let ran = renaming::run(states::read(given), program, memory, schedule);
-    let state = ran.state;
-    show::accepted(rt, ran.accepted, ran.issued, ran.refusal, ran.number)?;
-    show::state(rt, state, &memory[..])?;
-    drain(rt, program, memory, state)
-}
-
-fn step(
-    rt: &impl Print,
-    program: &[u8],
-    memory: &mut [u8],
-    record: &[u8],
-    before: State,
-) -> io::Result<State> {
-    let stepped = renaming::step(before, program, memory, record);
-    let state = stepped.state;
-    show::refused(rt, stepped.refusal, stepped.number)?;
-    show::state(rt, state, &memory[..])?;
-    Ok(state)
+    print!(rt; "accepted {} issued {}", ran.accepted, ran.issued)?;
+    println!(rt; " refused {}", Show(ran.verdict))?;
+    show::state(rt, ran.state, memory)?;
+    drain(rt, program, memory, ran.state)
 }
 
 // The last record may be short.
@@ -64,56 +51,46 @@ fn steps(
     given: &[u8],
 ) -> io::Result<()> {
     let mut state = states::read(given);
-    let mut rest = schedule;
-    while rest.len() >= 4 {
-        state = step(rt, program, memory, &rest[..4], state)?;
-        rest = &rest[4..];
-    }
-    if rest.len() > 0 {
-        step(rt, program, memory, rest, state)?;
+    for record in schedule.chunks(4) {
+        let stepped = renaming::step(state, program, memory, record);
+        println!(rt; "refused {}", Show(stepped.verdict))?;
+        show::state(rt, stepped.state, memory)?;
+        state = stepped.state;
     }
     Ok(())
 }
 
 fn look(rt: &impl Print, program: &[u8], memory: &[u8], address: u32) -> io::Result<()> {
-    show::reading(rt, b"read", isa::read(program))?;
-    show::reading(rt, b"fetch", isa::fetch(program, InstrAddr(address)))?;
-    show::verdict(rt, b"program ", isa::scan(program))?;
-    show::verdict(rt, b"memory ", cells::scan(memory))?;
-    show::loaded(rt, cells::load(memory, DataAddr(address)))
+    println!(rt; "read {}", Show(isa::read(program)))?;
+    println!(rt; "fetch {}", Show(isa::fetch(program, InstrAddr(address))))?;
+    println!(rt; "program {}", Show(isa::scan(program)))?;
+    println!(rt; "memory {}", Show(cells::scan(memory)))?;
+    println!(rt; "load {}", Show(cells::load(memory, DataAddr(address))))
 }
 
 fn write(rt: &impl Print, out: &mut [u8], given: &[u8]) -> io::Result<()> {
-    let i = states::instruction_of(bytes::record(given, 0));
-    show::field(rt, b"write ", isa::write(i, out) as u64)?;
-    show::bytes(rt, &out[..])
+    let written = isa::write(states::instruction_of(bytes::record(given, 0)), out);
+    println!(rt; "write {}{}", Show(written), Show(&out[..]))
 }
 
 fn store(rt: &impl Print, memory: &mut [u8], address: u32, given: &[u8]) -> io::Result<()> {
     let v = states::value_of(bytes::record(given, 0));
-    show::field(
-        rt,
-        b"store ",
-        cells::store(memory, DataAddr(address), v) as u64,
-    )?;
-    show::bytes(rt, &memory[..])
+    let stored = cells::store(memory, DataAddr(address), v);
+    println!(rt; "store {}{}", Show(stored), Show(&memory[..]))
 }
 
 fn list(rt: &impl Print, program: &[u8], out: &mut [u8]) -> io::Result<()> {
     let listed = listing::list(program, out);
-    show::field(rt, b"listed ", listed.refusal as u64)?;
-    show::field(rt, b" record ", listed.number as u64)?;
-    show::line(rt, b" bytes ", listed.written as u64)?;
-    show::put(rt, &out[..])?;
+    let written = listed.unwrap_or(0);
+    println!(rt; "listed {} bytes {written}", Show(listed.map(|_| ())))?;
+    rt.write_all(out)?;
     println!(rt)
 }
 
 fn operate(rt: &impl Print, operation: u8, given: &[u8]) -> io::Result<()> {
     let a = states::value_of(bytes::record(given, 0));
     let b = states::value_of(bytes::record(given, 1));
-    print!(rt; "result")?;
-    show::value(rt, value::operate(operation, a, b))?;
-    println!(rt)
+    println!(rt; "result {}", Show(value::operate(operation, a, b)))
 }
 
 pub fn print(
@@ -124,13 +101,12 @@ pub fn print(
     schedule: &[u8],
     given: &[u8],
 ) -> io::Result<()> {
-    let kind = head.b0;
-    match kind {
+    match head.b0 {
         0 => report(rt, program, memory, schedule),
         1 => in_order(rt, program, memory, head.word),
         2 => run_and_drain(rt, program, memory, schedule, given),
         3 => steps(rt, program, memory, schedule, given),
-        4 => look(rt, program, &memory[..], head.word),
+        4 => look(rt, program, memory, head.word),
         5 => write(rt, memory, given),
         6 => store(rt, memory, head.word, given),
         7 => list(rt, program, memory),

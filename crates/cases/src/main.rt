@@ -14,8 +14,6 @@
 // kind 8: the operation in the byte, on the two values in the last part
 #![tactic(auto)]
 
-ghost use Rattle.std.specs.Prelude.{◌≤◌, length};
-
 mod answers;
 mod bytes;
 mod show;
@@ -31,17 +29,15 @@ fn head(input: &mut impl Read) -> Record {
     bytes::record(&b, 0)
 }
 
-// How many bytes at the buffer's start are the part; one that has no room is left out, and what is printed then differs.
-fn part(input: &mut impl Read, buf: &mut [u8]) -> usize
-    ensures { result ≤ length buf.new }
-{
-    let r = head(input);
-    let n = r.word as usize;
+// The part, at the buffer's start; one that has no room is left out, and what is printed then differs.
+fn part<'a>(input: &mut impl Read, buf: &'a mut [u8]) -> &'a mut [u8] {
+    let n = head(input).word as usize;
     if n > buf.len() {
-        return 0;
+        return &mut buf[..0];
     }
-    buffers::fill(input, &mut buf[..n]);
-    n
+    let part = &mut buf[..n];
+    buffers::fill(input, part);
+    part
 }
 
 // Each part has room for one record more than is allowed, which some case tries, and for the longest listing and state.
@@ -50,37 +46,22 @@ fn case(rt: &impl Print, input: &mut impl Read, number: u32) -> io::Result<()> {
     let mut memory = [0u8; 31775];
     let mut schedule = [0u8; 65540];
     let mut rest = [0u8; 2056];
-    let r = head(input);
-    let p = part(input, &mut program);
-    let m = part(input, &mut memory);
-    let s = part(input, &mut schedule);
-    let n = part(input, &mut rest);
-    show::line(rt, b"case ", number as u64)?;
-    answers::print(
-        rt,
-        r,
-        &program[..p],
-        &mut memory[..m],
-        &schedule[..s],
-        &rest[..n],
-    )
-}
-
-fn cases(rt: &impl Print, input: &mut impl Read, count: u32) -> io::Result<()> {
-    let mut number: u32 = 0;
-    while number < count {
-        case(rt, input, number)?;
-        number += 1;
-    }
-    Ok(())
+    let head = head(input);
+    let program = part(input, &mut program);
+    let memory = part(input, &mut memory);
+    let schedule = part(input, &mut schedule);
+    let rest = part(input, &mut rest);
+    println!(rt; "case {number}")?;
+    answers::print(rt, head, program, memory, schedule, rest)
 }
 
 fn main(rt: HostRuntime) -> io::Result<()> {
-    match fs::open(&rt, "cases.bin") {
-        Ok(mut input) => {
-            let r = head(&mut input);
-            cases(&rt, &mut input, r.word)
-        }
-        Err(_) => Ok(()),
+    let Ok(mut input) = fs::open(&rt, "cases.bin") else {
+        return Ok(());
+    };
+    let count = head(&mut input).word;
+    for number in 0..count {
+        case(&rt, &mut input, number)?;
     }
+    Ok(())
 }

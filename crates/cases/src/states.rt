@@ -1,15 +1,17 @@
 // What the last part of a case hands over: values, an instruction, a state; and the in-order machine as a state.
+ghost use Rattle.std.specs.Prelude.{◌<◌};
+
 use crate::bytes;
 use inorder::InOrder;
 use isa::{Instr, InstrAddr, REGISTERS, Reg, Tag};
 use records::Record;
+use std::array;
 use templates::{Counter, Operand, PLACES, Register, State, Template, Work};
 use value::Value;
 
 // The fields as they stand in the record, also where they are malformed; an operation has the constant's lowest byte.
 pub fn instruction_of(r: Record) -> Instr {
-    let code = r.b0;
-    match code {
+    match r.b0 {
         1 => Instr::Loadc(Reg(r.b1), r.word),
         2 => Instr::Loadpc(Reg(r.b1)),
         3 => Instr::Op(Reg(r.b1), (r.word % 256) as u8, Reg(r.b2), Reg(r.b3)),
@@ -37,13 +39,11 @@ fn operand_of(r: Record) -> Operand {
 
 // The kinds by the numbers that the second model gives them; it writes none over 4.
 fn work_of(head: Record, first: Record, second: Record) -> Work {
-    let kind = head.b0;
     let tag = Tag(head.b1);
-    let v = value_of(first);
     let a = operand_of(first);
     let b = operand_of(second);
-    match kind {
-        0 => Work::Done(tag, v),
+    match head.b0 {
+        0 => Work::Done(tag, value_of(first)),
         1 => Work::Op(tag, head.b2, a, b),
         2 => Work::Jz(a, b),
         3 => Work::Load(tag, a),
@@ -52,41 +52,26 @@ fn work_of(head: Record, first: Record, second: Record) -> Work {
 }
 
 // The counter's record comes first, then a row of four records for each place: a register, a template and its two operands.
-fn template(b: &[u8], place: u8) -> Template {
-    let row = 4 * (place as usize);
+fn template(b: &[u8], place: usize) -> Template
+    requires { place < PLACES }
+{
+    let row = 4 * place;
     let head = bytes::record(b, row + 2);
-    let work = work_of(head, bytes::record(b, row + 3), bytes::record(b, row + 4));
     Template {
         address: InstrAddr(head.word),
-        work: work,
+        work: work_of(head, bytes::record(b, row + 3), bytes::record(b, row + 4)),
     }
 }
 
 // Rows that are left out are read as zeros: here an undefined register, below a blank place.
 fn registers(b: &[u8]) -> [Register; REGISTERS] {
-    let mut rf = [Register {
-        holds: Operand::Known(value::UNDEFINED),
-    }; REGISTERS];
-    let mut r: usize = 0;
-    while r < REGISTERS {
-        let o = operand_of(bytes::record(b, 4 * r + 1));
-        rf[r] = Register { holds: o };
-        r += 1;
-    }
-    rf
+    array::from_fn(|r| Register {
+        holds: operand_of(bytes::record(b, 4 * r + 1)),
+    })
 }
 
-// The table's places, as wide as a place in a record.
-const ROWS: u8 = 64;
-
 fn table(b: &[u8]) -> [Template; PLACES] {
-    let mut ts = [templates::leaf::blank(); PLACES];
-    let mut place: u8 = 0;
-    while place < ROWS {
-        ts[place as usize] = template(b, place);
-        place += 1;
-    }
-    ts
+    array::from_fn(|place| template(b, place))
 }
 
 fn counter_of(r: Record) -> Counter {
@@ -108,30 +93,13 @@ pub fn read(b: &[u8]) -> State {
     }
 }
 
-fn known(given: [inorder::Register; REGISTERS]) -> [Register; REGISTERS] {
-    let mut rf = [Register {
-        holds: Operand::Known(value::UNDEFINED),
-    }; REGISTERS];
-    let mut r: usize = 0;
-    while r < REGISTERS {
-        let x = given[r];
-        let v = x.value;
-        rf[r] = Register {
-            holds: Operand::Known(v),
-        };
-        r += 1;
-    }
-    rf
-}
-
 // The in-order machine as a state with no templates.
 pub fn of_machine(m: InOrder) -> State {
-    let at = m.counter;
-    let given = m.registers;
     State {
-        counter: Counter::At(at),
-        registers: known(given),
-        templates: [templates::leaf::blank(); PLACES],
-        count: 0,
+        counter: Counter::At(m.counter),
+        registers: m.registers.map(|r| Register {
+            holds: Operand::Known(r.value),
+        }),
+        ..State::start()
     }
 }

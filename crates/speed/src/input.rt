@@ -11,29 +11,20 @@ pub fn file(rt: &impl Files, path: &[u8], buf: &mut [u8]) -> usize
     let Ok(path) = str::from_utf8(path) else {
         return 0;
     };
-    match fs::open(rt, path) {
-        Ok(mut file) => buffers::fill(&mut file, buf),
-        Err(_) => 0,
-    }
+    let Ok(mut file) = fs::open(rt, path) else {
+        return 0;
+    };
+    buffers::fill(&mut file, buf)
 }
 
 // The number that the text starts with, of at most nine digits.
 fn number(text: &[u8]) -> u32 {
-    let mut n: u32 = 0;
-    let mut i: usize = 0;
-    while i < text.len() {
-        let digit = text[i];
-        if digit < 48 {
-            return n;
+    let mut n = 0;
+    for digit in text {
+        if !digit.is_ascii_digit() || n >= 100_000_000 {
+            break;
         }
-        if digit > 57 {
-            return n;
-        }
-        if n >= 100000000 {
-            return n;
-        }
-        n = 10 * n + (digit - 48) as u32;
-        i += 1;
+        n = 10 * n + u32::from(digit - b'0');
     }
     n
 }
@@ -41,8 +32,6 @@ fn number(text: &[u8]) -> u32 {
 // How often a part is repeated: the argument of that number, 0 if there is none.
 pub fn times(rt: &impl Env, argument: usize) -> u32 {
     let mut text = [0u8; 16];
-    match rt.arg(argument, &mut text) {
-        Ok(n) => number(&text[..n]),
-        Err(_) => 0,
-    }
+    rt.arg(argument, &mut text)
+        .map_or(0, |n| number(&text[..n]))
 }

@@ -4,90 +4,34 @@
 mod input;
 mod parts;
 
-use parts::Tally;
-use renaming::Ran;
 use std::io;
-use std::rt::Env;
-use templates::{Counter, State};
+use templates::State;
 
-fn field(rt: &impl Print, name: &[u8], n: u64) -> io::Result<()> {
-    rt.write_all(name)?;
-    print!(rt; "{n}")
-}
+// The largest program or memory, the largest schedule, and one byte more each, by which a file that is too long is refused.
+const FILE: usize = 8193;
 
-// A line of the form `run 10 refused 0 pc 5`.
-fn print(rt: &impl Print, part: &[u8], t: Tally) -> io::Result<()> {
-    let c = t.counter;
-    field(rt, part, t.rules)?;
-    field(rt, b" refused ", t.refusal as u64)?;
-    match c {
-        Counter::At(a) => field(rt, b" pc ", a.0 as u64)?,
-        Counter::Stall => print!(rt; " pc stall")?,
-    }
-    println!(rt)
-}
+const SCHEDULE: usize = 65537;
 
-// A run and an in-order run start with memory as read, `kept`. A drain starts with what one run left: its state, and its
-// memory, `left`. The in-order machine executes as many instructions as that run issued.
-fn measure(
-    rt: &(impl Env + Print),
-    ran: Ran,
-    program: &[u8],
-    kept: &[u8],
-    left: &[u8],
-    memory: &mut [u8],
-    schedule: &[u8],
-) -> io::Result<()> {
-    let s = ran.state;
-    print(
-        rt,
-        b"run ",
-        parts::runs(input::times(rt, 1), program, kept, memory, schedule),
-    )?;
-    print(
-        rt,
-        b"drain ",
-        parts::drains(input::times(rt, 2), s, program, left, memory),
-    )?;
-    print(
-        rt,
-        b"inorder ",
-        parts::executions(input::times(rt, 3), program, kept, memory, ran.issued),
-    )
-}
-
-// One run that is not measured comes first, for what it leaves.
-fn prepare(
-    rt: &(impl Env + Print),
-    program: &[u8],
-    kept: &[u8],
-    left: &mut [u8],
-    memory: &mut [u8],
-    schedule: &[u8],
-) -> io::Result<()> {
-    let ran = renaming::run(State::start(), program, left, schedule);
-    measure(rt, ran, program, kept, &left[..], memory, schedule)
-}
-
-// Each buffer is one byte over its limit, so that a file that is too long is refused. Memory is read three times: to be
-// kept, to be what the run leaves, and to be worked on.
+// One run that is not measured comes first. A run and an in-order run start with memory as read, `kept`. A drain starts with
+// what that one run left: its state, and its memory, `left`. The in-order machine executes as many instructions as it issued.
 fn main(rt: HostRuntime) -> io::Result<()> {
-    let mut program = [0u8; 8193];
-    let mut kept = [0u8; 8193];
-    let mut left = [0u8; 8193];
-    let mut memory = [0u8; 8193];
-    let mut schedule = [0u8; 65537];
+    let mut program = [0u8; FILE];
+    let mut kept = [0u8; FILE];
+    let mut left = [0u8; FILE];
+    let mut memory = [0u8; FILE];
+    let mut schedule = [0u8; SCHEDULE];
     let p = input::file(&rt, b"program.ax", &mut program);
     let k = input::file(&rt, b"memory.ax", &mut kept);
     let l = input::file(&rt, b"memory.ax", &mut left);
     let m = input::file(&rt, b"memory.ax", &mut memory);
     let s = input::file(&rt, b"schedule.ax", &mut schedule);
-    prepare(
-        &rt,
-        &program[..p],
-        &kept[..k],
-        &mut left[..l],
-        &mut memory[..m],
-        &schedule[..s],
-    )
+    let (program, kept, schedule) = (&program[..p], &kept[..k], &schedule[..s]);
+    let (left, memory) = (&mut left[..l], &mut memory[..m]);
+    let ran = renaming::run(State::start(), program, left, schedule);
+    let runs = parts::runs(input::times(&rt, 1), program, kept, memory, schedule);
+    println!(rt; "run {runs}")?;
+    let drains = parts::drains(input::times(&rt, 2), ran.state, program, left, memory);
+    println!(rt; "drain {drains}")?;
+    let executions = parts::executions(input::times(&rt, 3), program, kept, memory, ran.issued);
+    println!(rt; "inorder {executions}")
 }

@@ -1,9 +1,0 @@
--- `number` goes over the text once, and ends with it.
-use Rattle.std.proofs.Common.{◌-◌, ◌≤◌, length}
-use Rattle.speed.proofs.input.number.Given as goal
-
-abbrev pub invariant-loop-i : goal.invariant-loop-i
-invariant-loop-i l = l.i ≤ length l.text
-
-abbrev pub decreases-loop-i : goal.decreases-loop-i
-decreases-loop-i l = length l.text - l.i
