@@ -15,29 +15,32 @@ Entry = namedtuple("Entry", "name body")  # the body of the function that calls 
 
 MACHINE = "InOrder { counter: machine_counter(s), registers: machine_registers(s) }"
 ENTRIES = [Entry(*entry) for entry in (
-    ("renaming::step", "let a = renaming::step(s, program, memory, schedule); a.refusal as u64"),
-    ("renaming::run", "let a = renaming::run(s, program, memory, schedule); a.refusal as u64"),
-    ("renaming::drain", "let a = renaming::drain(s, program, memory); a.refusal as u64"),
-    ("inorder::run", "let m = %s; let a = m.run(program, memory, 20); a.stop as u64" % MACHINE),
-    ("inorder::step", "let m = %s; let a = m.step(program, memory); a.stop as u64" % MACHINE),
-    ("inorder::enter", "let m = %s; let a = m.enter(program, &memory[..]); a.refusal as u64" % MACHINE),
-    ("entry::enter", "let a = entry::enter(s, program, &memory[..]); a.refusal as u64"),
+    ("renaming::step", "faulted(renaming::step(s, program, memory, schedule).verdict)"),
+    ("renaming::run", "faulted(renaming::run(s, program, memory, schedule).verdict)"),
+    ("renaming::drain", "faulted(renaming::drain(s, program, memory).verdict)"),
+    ("inorder::run", "let m = %s; faulted(m.run(program, memory, 20).stop)" % MACHINE),
+    ("inorder::step", "let m = %s; faulted(m.step(program, memory).stop)" % MACHINE),
+    ("inorder::enter", "let m = %s; faulted(m.enter(program, &memory[..]))" % MACHINE),
+    ("entry::enter", "faulted(entry::enter(s, program, &memory[..]))"),
     ("sound::is_sound", "if sound::is_sound(s, (program.len().min(8192) / 8) as u32) { 0 } else { 4 }"),
     ("judge::refusal_at", """if schedule.len() < 4 {
         return 99;
     }
     match schedule::read(schedule[0], schedule[1], schedule[2], schedule[3]) {
-        Command::Apply(rule, p) => judge::refusal_at(s, rule, p, &memory[..]) as u64,
+        Command::Apply(rule, p) => match judge::refusal_at(s, rule, p, &memory[..]) {
+            Ok(()) => 0,
+            Err(refusal) => u64::from(refusal.number()),
+        },
         Command::Issue(_) | Command::Malformed => 99,
     }"""),
-    ("report::report", "let a = report::report(program, memory, schedule, out); a.written as u64"),
-    ("report::contents", "let a = report::contents(s, &memory[..], out); a.written as u64"),
-    ("listing::list", "let a = listing::list(program, out); a.written as u64"),
-    ("kernel::check", "let a = kernel::check(program, &memory[..]); a.refusal as u64"),
-    ("isa::scan", "let a = isa::scan(program); a.refusal as u64"),
-    ("cells::scan", "let a = cells::scan(&memory[..]); a.refusal as u64"),
-    ("lines::put_counter", "let c = s.counter; lines::put_counter(out, 0, c) as u64"),
-    ("lines::put_registers", "let rs = s.registers; lines::put_registers(out, 0, rs) as u64"),
+    ("report::report", "report::report(program, memory, schedule, out).unwrap_or(0) as u64"),
+    ("report::contents", "report::contents(s, &memory[..], out).unwrap_or(0) as u64"),
+    ("listing::list", "listing::list(program, out).unwrap_or(0) as u64"),
+    ("kernel::check", "faulted(kernel::check(program, &memory[..]))"),
+    ("isa::scan", "faulted(isa::scan(program))"),
+    ("cells::scan", "faulted(cells::scan(&memory[..]))"),
+    ("lines::put_counter", "let mut page = Page { out, at: 0 }; lines::put_counter(&mut page, s.counter); page.at as u64"),
+    ("lines::put_registers", "let mut page = Page { out, at: 0 }; lines::put_registers(&mut page, s.registers); page.at as u64"),
 )]
 
 PARAMETERS = "s: State, program: &[u8], memory: &mut [u8], schedule: &[u8], out: &mut [u8]"
@@ -52,13 +55,21 @@ mod states;
 
 use inorder::InOrder;
 use isa::{InstrAddr, REGISTERS};
+use records::Fault;
 use rules::Command;
 use std::io;
 use templates::{Counter, Operand, State};
+use text::Page;
+
+fn faulted(verdict: Result<(), Fault>) -> u64 {
+    match verdict {
+        Ok(()) => 0,
+        Err(fault) => u64::from(fault.refusal.number()),
+    }
+}
 
 fn machine_counter(s: State) -> InstrAddr {
-    let c = s.counter;
-    match c {
+    match s.counter {
         Counter::At(ia) => ia,
         Counter::Stall => InstrAddr(0),
     }
@@ -68,13 +79,8 @@ fn machine_registers(s: State) -> [inorder::Register; REGISTERS] {
     let given = s.registers;
     let mut rf = [inorder::Register { value: value::UNDEFINED }; REGISTERS];
     for r in 0..REGISTERS {
-        let x = given[r];
-        let o = x.holds;
-        match o {
-            Operand::Known(v) => {
-                rf[r] = inorder::Register { value: v };
-            }
-            Operand::Waits(_) => {}
+        if let Operand::Known(value) = given[r].holds {
+            rf[r] = inorder::Register { value };
         }
     }
     rf
@@ -112,10 +118,9 @@ fn main(rt: HostRuntime) -> io::Result<()> {
 }
 """
 
-# What reads states and files in the programs of the repository reads them here, with the proofs of what has a loop.
+# What reads states and files in the programs of the repository reads them here.
 BORROWED = ("cases/src/bytes.rt", "cases/src/states.rt", "speed/src/input.rt")
-PROOFS = ("cases/proofs/states", "speed/proofs/input")
-USES = "records value buffers isa listing cells kernel inorder templates sound rules entry schedule lines judge renaming report"
+USES = "records value text buffers isa listing cells kernel inorder templates sound rules entry schedule lines judge renaming report"
 CLANG = """#!/bin/sh
 # The kit's clang; of what is compiled at -O3 the module and the words are kept.
 case " $* " in *" -O3 "*) /bin/cp module.bc "%(kept)s/module.bc" && printf '%%s\\n' "$@" > "%(kept)s/words" ;; esac
@@ -168,15 +173,6 @@ class Maker:
         os.makedirs(os.path.join(self.host, "src"))
         for path in BORROWED:
             shutil.copy(os.path.join(crates, path), os.path.join(self.host, "src"))
-        for path in PROOFS:
-            self.copy_proofs(os.path.join(crates, path), path.split("/")[0])
-
-    def copy_proofs(self, proofs, crate):
-        for at, _, names in os.walk(proofs):
-            to = os.path.join(self.host, "proofs", os.path.basename(proofs), os.path.relpath(at, proofs))
-            for name in names:
-                with open(os.path.join(at, name), encoding="utf-8") as file:
-                    write(os.path.join(to, name), file.read().replace("Rattle.%s." % crate, "Rattle.host."))
 
     def copy_kit(self):
         guide = subprocess.run(["rt", "doc"], capture_output=True, text=True, check=True).stdout.strip()
