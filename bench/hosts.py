@@ -221,6 +221,7 @@ def symbol(module, entry):
     """The one function of the module that is the entry, whichever module of its crate it stands in."""
     crate, name = entry.name.split("::")
     found = re.findall(r'^define .*@"(%s::(?:\w+::)*%s)"\(' % (crate, name), module, flags=re.MULTILINE)
+    found = [path for path in found if not re.search("::[A-Z]", path)] or found  # not a method of the same name
     if len(found) != 1:
         sys.exit("%s: the functions of that name are %s" % (entry.name, found))
     return found[0]
