@@ -104,6 +104,7 @@ one_answers =
       coded = λ o r r' e f. one_answer _ r r' e.is f.is;
       row = λ x r r' e f. one_answer _ r r' e.is f.is;
       numbers = λ rf r r' e f. one_answer _ r r' e.numbers f.numbers;
+      turn_in = λ ts r r' e f. one_answer _ r r' e.rows f.rows;
       rows = λ ts r r' e f. one_answer _ r r' e.rows f.rows;
       template = λ ts p. one_answer _;
       templates = λ ts n. one_answer _;

@@ -145,6 +145,7 @@ pub record OneAnswers : Type 0 where
   pub coded : (o : Operand) → OneAnswer (Codes o)
   pub row : (x : Template) → OneAnswer (CodesRow (Layout.itb x))
   pub numbers : (rf : List Register) → OneAnswer (TurnsRegisters rf)
+  pub turn_in : (ts : List Template) → OneAnswer (TurnsTemplates ts)
   pub rows : (ts : List Template) → OneAnswer (TurnsTemplates ts)
   pub template : (ts : List Row) (p : ℕ) → OneAnswer (λ (r' : Template). r' ≡ Layout.template (itb_of (row_at ts p)))
   pub templates : (ts : List Row) (n : ℕ) → OneAnswer (λ (r' : List Template). r' ≡ laid_templates n ts)

@@ -181,7 +181,7 @@ pub fn refusal_at(state: State, rule: Rule, place: usize, memory: &[u8]) -> Resu
     ensures { result ≡ refusal_at rule place (mach_of state) (cells memory.now) }
 {
     let rf = table::numbers(state.registers);
-    let ts = table::rows(state.templates);
+    let ts = table::rows(&state.templates);
     let n = rows::held(&ts, state.count);
     refusal_on(&ts, &rf, n, rule, place, memory)
 }

@@ -6,12 +6,11 @@ use native.Mathlib.Omega.{arith}
 use mathlib.Core.Bool.{Bool, true, false, cond}
 use mathlib.Core.List.{List, [], ◌∷◌}
 use lib.ListN.{length, get_or}
-use Rattle.std.specs.Prelude.{Result, Ok, Err}
+use Rattle.std.specs.Prelude.{Result, Err}
 use Rattle.records.specs.declared.Fault.{Fault}
 use Rattle.records.specs.declared.Refusal.{Refusal}
 use Rattle.records.specs.declared.Refusal.TheVariants.{Unsound}
 use Rattle.records.specs.Scan.{refused, accepted}
-use Rattle.records.proofs.Basics.{got_not_fails}
 use Rattle.value.specs.declared.Value.{Value}
 use Rattle.kernel.specs.Checks.{first, checked}
 use Rattle.templates.specs.declared.Counter.{Counter}
@@ -20,7 +19,7 @@ use Rattle.templates.specs.declared.Template.{Template}
 use Rattle.templates.specs.declared.State.{State}
 use Rattle.templates.specs.Machine.{Itb, nothing, Mach, mach}
 use Rattle.templates.specs.Layout.{places, template, itbs, mach_of, state_of, Laid}
-use Rattle.sound.specs.Sound.{is_sound, sound_mach}
+use Rattle.sound.specs.Sound.{sound_mach}
 use Rattle.sound.specs.Search.{sound_on}
 use Rattle.sound.proofs.Turned.{machine_shown, sound_turned}
 use Rattle.cells.specs.Cells.{Formed}
@@ -33,38 +32,23 @@ use Rattle.rules.specs.declared.Rule.{Rule}
 use Rattle.rules.specs.Drain.{asks, refusal_at, blocking}
 use Rattle.judge.specs.Reading.{refusal_on}
 use Rattle.judge.proofs.Answering.{refusal_shown}
-use Rattle.renaming.specs.Working.{Coded, if_entered, entering, entered_on, Ready}
+use Rattle.renaming.specs.Working.{Coded, entered_on, Ready}
 use Rattle.renaming.proofs.Fitting.{entered-program, entered-memory, entered-fit}
 
 -- ---- the way in
 
--- the program or the memory refused
-pub enter_refused : (p b : List ℕ) (s : State) {f : Fault} → checked p b ≡ Err f → Err f ≡ entering p b s
-unfolding entered
-enter_refused p b s e = rw (e) refl
+module _ (p b : List ℕ) (c : Counter) (n : ℕ) (ts : List Row) (rf : List ℕ) where
+  -- the program or the memory refused
+  pub on_refused : {f : Fault} → checked p b ≡ Err f → Err f ≡ entered_on p b c n ts rf
+  on_refused e = rw (e) refl
 
-module _ (p b : List ℕ) (s : State) (h : checked p b ≡ accepted) {ts : List Row} (u : TurnsTemplates s.templates ts) {rf : List ℕ} (v : TurnsRegisters s.registers rf)
-    {r : Bool} (e : r ≡ sound_on (length p / 8) s.counter s.count ts rf) where
-  sound : r ≡ is_sound (length p / 8) s
-  sound = sound_turned s (turned_long u) (turned_shows u) v (length p / 8) e
+  -- or the machine, or none of them
+  module _ (h : checked p b ≡ accepted) {r : Bool} (e : r ≡ sound_on (length p / 8) c n ts rf) where
+    pub on_unsound : r ≡ false → {f : Fault} → f ≡ record { refusal = Unsound; number = 0 } → Err f ≡ entered_on p b c n ts rf
+    on_unsound q k = rw (h, ← e, q, k) refl
 
-  pub enter_unsound : r ≡ false → {f : Fault} → f ≡ record { refusal = Unsound; number = 0 } → Err f ≡ entering p b s
-  unfolding entered
-  enter_unsound q k = rw (k, h, ← sound, q) refl
-
-  module _ (q : r ≡ true) where
-    passes : entered p b s ≡ accepted
-    unfolding entered
-    passes = rw (h, ← sound, q) refl
-
-    laid : Laid s
-    laid = (entered-fit p b s (record { verdict = refl; long = u.long }) passes).laid
-
-    pub enter-coded : Coded s.count ts rf
-    enter-coded = record { table = tabled (shows_fewer (turned_shows u) s.count laid.within) (turned_long u) laid.within; file = turned-file v }
-
-    pub enters : Ok (mach s.counter (regs_of rf) (held_of s.count ts)) ≡ entering p b s
-    enters = ap Ok (machine_shown s (turned_long u) (turned_shows u) v laid.within) ∙ sym (ap (λ (x : Result (Unit {0}) Fault). if_entered x (mach_of s)) passes)
+    pub on_sound : r ≡ true → accepted ≡ entered_on p b c n ts rf
+    on_sound q = rw (h, ← e, q) refl
 
 -- the checks of the table that a state is turned into are those of the state
 module _ (s : State) {ts : List Row} (size : length ts ≡ places) (u : Shows places ts (itbs s.templates)) {rf : List ℕ} (v : TurnsRegisters s.registers rf) where
@@ -76,43 +60,37 @@ module _ (s : State) {ts : List Row} (size : length ts ≡ places) (u : Shows pl
         long = long;
       }
 
--- ---- and what was entered
+-- and those checks passed, it shows the state's machine, which is sound
+module _ (p b : List ℕ) (s : State) {ts : List Row} (u : TurnsTemplates s.templates ts) {rf : List ℕ} (v : TurnsRegisters s.registers rf)
+    {w : Result (Unit {0}) Fault} (e : w ≡ entered_on p b s.counter s.count ts rf) where
+  checks : Enters p b s w
+  checks = in_enters s (turned_long u) (turned_shows u) v p b u.long e
 
-abbrev ok-or : Mach → Result Mach Fault → Mach
-ok-or τ (Ok σ) = σ
-ok-or τ (Err f) = τ
+  pub kept_out : {f : Fault} → w ≡ Err f → entered p b s ≡ Err f
+  kept_out q = sym checks.verdict ∙ q
 
-abbrev said : Result Mach Fault → Result (Unit {0}) Fault
-said (Ok σ) = accepted
-said (Err f) = Err f
+  module _ (q : w ≡ accepted) where
+    pub came_in : entered p b s ≡ accepted
+    came_in = sym checks.verdict ∙ q
 
-entered_so : (w : Result (Unit {0}) Fault) {σ τ : Mach} → Ok σ ≡ if_entered w τ → (w ≡ accepted) × (σ ≡ τ)
-entered_so (Ok x) {σ} {τ} e = (refl, ap (ok-or τ) e)
-entered_so (Err f) e = got_not_fails (sym e)
+    laid : Laid s
+    laid = (entered-fit p b s checks q).laid
 
-entered_not : (w : Result (Unit {0}) Fault) (τ : Mach) {f : Fault} → Err f ≡ if_entered w τ → w ≡ Err f
-entered_not (Ok x) τ e = got_not_fails e
-entered_not (Err g) τ e = sym (ap said e)
+    pub in_coded : Coded s.count ts rf
+    in_coded = record { table = tabled (shows_fewer (turned_shows u) s.count laid.within) (turned_long u) laid.within; file = turned-file v }
 
-module _ (p b : List ℕ) (s : State) {r : Result Mach Fault} (e : r ≡ entering p b s) where
-  pub came_in : {σ : Mach} → r ≡ Ok σ → (entered p b s ≡ accepted) × (σ ≡ mach_of s)
-  came_in z = entered_so (entered p b s) (sym z ∙ e)
+    pub in_machine : mach s.counter (regs_of rf) (held_of s.count ts) ≡ mach_of s
+    in_machine = machine_shown s (turned_long u) (turned_shows u) v laid.within
 
-  pub kept_out : {f : Fault} → r ≡ Err f → entered p b s ≡ Err f
-  kept_out z = entered_not (entered p b s) (mach_of s) (sym z ∙ e)
-
-  module _ {σ : Mach} (z : r ≡ Ok σ) (long : length s.templates ≡ places) where
-    pub ready_in : Ready p σ
-    ready_in =
-        let k = came_in z in
-        let checks : Enters p b s (entered p b s) = record { verdict = refl; long = long } in
+    pub in_ready : Ready p (mach s.counter (regs_of rf) (held_of s.count ts))
+    in_ready =
         record {
-          sound = subst (λ (τ : Mach). sound_mach (length p / 8) τ ≡ true) (sym k.1) (entered-fit p b s checks k.0).sound;
-          scanned = entered-program p b s checks k.0;
+          sound = subst (λ (τ : Mach). sound_mach (length p / 8) τ ≡ true) (sym in_machine) (entered-fit p b s checks q).sound;
+          scanned = entered-program p b s checks q;
         }
 
-    pub memory_in : ((i : ℕ) → get_or b i 0 < 256) → Formed b
-    memory_in small = entered-memory p b s (record { verdict = refl; long = long }) (came_in z).0 small
+    pub in_memory : ((i : ℕ) → get_or b i 0 < 256) → Formed b
+    in_memory small = entered-memory p b s checks q small
 
 -- ---- laid out again, and what blocks: the oldest template
 

@@ -1,5 +1,5 @@
 -- The machine that the working table shows, and what the rules' code makes of it and of memory's bytes.
-use Rattle.std.specs.Prelude.{◌≡◌, ℕ, suc, ◌/◌, ◌≤◌, ◌<◌, true, cond, List, ◌++◌, length, get_or, take, drop, Result, Ok, Err}
+use Rattle.std.specs.Prelude.{◌≡◌, ℕ, suc, ◌/◌, ◌≤◌, ◌<◌, true, cond, List, ◌++◌, length, get_or, take, drop, Result}
 use Rattle.records.specs.declared.Fault.{Fault}
 use Rattle.records.specs.declared.Refusal.{Refusal}
 use Rattle.records.specs.declared.Refusal.TheVariants.{Unsound}
@@ -11,12 +11,9 @@ use Rattle.isa.specs.Program.{scan_of}
 use Rattle.cells.specs.Cells.{cells, Formed}
 use Rattle.kernel.specs.Checks.{first, checked}
 use Rattle.templates.specs.declared.Counter.{Counter}
-use Rattle.templates.specs.declared.State.{State}
 use Rattle.templates.specs.Machine.{Itb, nothing, Mach}
-use Rattle.templates.specs.Layout.{mach_of}
 use Rattle.sound.specs.Sound.{sound_mach}
 use Rattle.sound.specs.Search.{sound_on}
-use Rattle.entry.specs.Entry.{entered}
 use Rattle.rows.specs.Rows.{Row}
 use Rattle.rows.specs.Shown.{regs_of, Table, File}
 use Rattle.rules.specs.Rules.{Step, accepted, refused, holding, renamed}
@@ -36,14 +33,7 @@ pub record Coded (n : ℕ) (ts : List Row) (rf : List ℕ) : Type 0 where
 abbrev pub Within : List Itb → Type 0
 Within xs = (i : ℕ) → i < length xs → (get_or xs i nothing).address.0 < 1024
 
--- ---- the way in: the state's machine, unless the checks refuse
-
-abbrev pub if_entered : Result Unit Fault → Mach → Result Mach Fault
-if_entered (Ok x) σ = Ok σ
-if_entered (Err f) σ = Err f
-
-abbrev pub entering : List ℕ → List ℕ → State → Result Mach Fault
-entering p b s = if_entered (entered p b s) (mach_of s)
+-- ---- the way in
 
 -- refusals 1 to 4 of what a table shows
 abbrev pub entered_on : List ℕ → List ℕ → Counter → ℕ → List Row → List ℕ → Result Unit Fault

@@ -4,10 +4,10 @@ ghost use Rattle.records.specs.Refusal.{faulted};
 ghost use Rattle.renaming.specs.Entries.{Steps, Runs, Drains};
 
 use crate::working::Working;
-use crate::{Ran, Settled, Stepped};
-use isa::InstrAddr;
+use crate::{Ran, Settled, Stepped, working};
+use isa::{InstrAddr, REGISTERS};
 use records::{Fault, Refusal};
-use templates::State;
+use templates::{PLACES, State};
 
 // The fault of a refusal that is about no record.
 fn faulted(verdict: Result<(), Refusal>) -> Result<(), Fault>
@@ -33,17 +33,32 @@ pub fn run(state: State, program: &[u8], memory: &mut [u8], records: &[u8]) -> R
     if records.len() % 4 != 0 {
         return ran_not(state, Fault::from(Refusal::BadLength));
     }
-    match Working::enter(state, program, &memory[..]) {
-        Err(fault) => ran_not(state, fault),
-        Ok(mut working) => {
-            let went = working.run(program, memory, records);
-            Ran {
-                state: working.state(),
-                accepted: went.accepted,
-                issued: went.issued,
-                verdict: faulted(went.verdict),
-            }
-        }
+    // The working table takes the state in where it stands: nothing of that size is handed over.
+    let mut working = Working {
+        counter: state.counter,
+        registers: [rows::UNDEFINED; REGISTERS],
+        templates: [[0; 3]; PLACES],
+        count: 0,
+    };
+    working.registers = table::numbers(state.registers);
+    table::turn_in(&mut working.templates, &state.templates);
+    if let Err(fault) = working::enter(
+        &working.templates,
+        &working.registers,
+        state.counter,
+        state.count,
+        program,
+        &memory[..],
+    ) {
+        return ran_not(state, fault);
+    }
+    working.count = state.count;
+    let went = working.run(program, memory, records);
+    Ran {
+        state: working.state(),
+        accepted: went.accepted,
+        issued: went.issued,
+        verdict: faulted(went.verdict),
     }
 }
 
@@ -67,21 +82,36 @@ pub fn step(state: State, program: &[u8], memory: &mut [u8], one: &[u8]) -> Step
 pub fn drain(state: State, program: &[u8], memory: &mut [u8]) -> Settled
     ensures { Drains program.now state memory.old result memory.new }
 {
-    match Working::enter(state, program, &memory[..]) {
-        Err(fault) => Settled {
+    // The working table takes the state in where it stands: nothing of that size is handed over.
+    let mut working = Working {
+        counter: state.counter,
+        registers: [rows::UNDEFINED; REGISTERS],
+        templates: [[0; 3]; PLACES],
+        count: 0,
+    };
+    working.registers = table::numbers(state.registers);
+    table::turn_in(&mut working.templates, &state.templates);
+    if let Err(fault) = working::enter(
+        &working.templates,
+        &working.registers,
+        state.counter,
+        state.count,
+        program,
+        &memory[..],
+    ) {
+        return Settled {
             state,
             rules: 0,
             verdict: Err(fault),
             address: InstrAddr(0),
-        },
-        Ok(mut working) => {
-            let rules = working.drain(memory);
-            Settled {
-                state: working.state(),
-                rules,
-                verdict: faulted(working.blocking(&memory[..])),
-                address: working.blocked_at(),
-            }
-        }
+        };
+    }
+    working.count = state.count;
+    let rules = working.drain(memory);
+    Settled {
+        state: working.state(),
+        rules,
+        verdict: faulted(working.blocking(&memory[..])),
+        address: working.blocked_at(),
     }
 }

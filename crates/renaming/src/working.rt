@@ -5,7 +5,7 @@ ghost use Rattle.templates.specs.Machine.{Mach, mach};
 ghost use Rattle.templates.specs.Layout.{state_of};
 ghost use Rattle.rows.specs.Shown.{held_of, regs_of};
 ghost use Rattle.rules.specs.Drain.{blocking, blocked_at};
-ghost use Rattle.renaming.specs.Working.{Coded, entering};
+ghost use Rattle.renaming.specs.Working.{Coded, entered_on};
 
 use isa::{InstrAddr, REGISTERS};
 use records::{Fault, Refusal};
@@ -30,32 +30,25 @@ impl Model for Working {
     ghost invariant = { λ w. Coded w.count w.templates w.registers };
 }
 
-impl Working {
-    // The state's machine, unless refusals 1 to 4 say no.
-    pub(crate) fn enter(state: State, program: &[u8], memory: &[u8]) -> Result<Working, Fault>
-        ensures { result ≡ entering program.now memory.now state }
-    {
-        kernel::check(program, memory)?;
-        let registers = table::numbers(state.registers);
-        let templates = table::rows(state.templates);
-        let instructions = (program.len() / 8) as u32;
-        if !sound::sound_on(
-            &templates,
-            &registers,
-            state.counter,
-            state.count,
-            instructions,
-        ) {
-            return Err(Fault::from(Refusal::Unsound));
-        }
-        Ok(Working {
-            counter: state.counter,
-            registers,
-            templates,
-            count: state.count,
-        })
+// Refusals 1 to 4 of what rows and numbers show.
+pub(crate) fn enter(
+    ts: &[[u64; 3]],
+    rf: &[u64],
+    c: Counter,
+    n: usize,
+    program: &[u8],
+    memory: &[u8],
+) -> Result<(), Fault>
+    ensures { result ≡ entered_on program.now memory.now c n ts.now rf.now }
+{
+    kernel::check(program, memory)?;
+    if !sound::sound_on(ts, rf, c, n, (program.len() / 8) as u32) {
+        return Err(Fault::from(Refusal::Unsound));
     }
+    Ok(())
+}
 
+impl Working {
     pub(crate) fn state(&self) -> State
         ensures { result ≡ state_of self.now }
     {

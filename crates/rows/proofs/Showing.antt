@@ -25,7 +25,6 @@ use Rattle.templates.specs.Layout.{places, template, blank, itb, lay, itbs}
 use Rattle.rows.specs.Rows.{Row, a_load, a_store, no_word, waiting, value_number, number, operand_of, contents_at, row_of, itb_of, head, one, kind_of, tag_of, blank_row, row_at, kind_at, tag_at, held_behind, memory_before, produced_in, in_register, holds_row, map_from, fill_row, fill_number, filled_behind, without}
 use Rattle.rows.specs.Shown.{held_of, regs_of, numbers_of, Table, File, laid, laid_templates, laid_registers}
 use Rattle.rows.specs.Answers.{SmallValue, SmallOperand, Small, All, Finishes, Fills, Holds, Puts, TurnsRegisters, TurnsTemplates}
-use Rattle.rows.proofs.Walks.{Made}
 use Rattle.rows.proofs.Coding.{operand_back, operand_small, row_back, row_small, waits-number, holds_row_lem, fill_number_lem, fill-small, fill_row_lem, fill_itb-small, kind_row, memory-row, made_row}
 
 -- ---- each of a list
@@ -426,9 +425,6 @@ module _ {rs : List Register} {r : List ℕ} (u : TurnsRegisters rs r) where
 
   pub turned-file : File r
   turned-file = filed turned_lists (ap length u.numbers ∙ length-map rs (λ (x : Register). number x.holds) ∙ u.long)
-
-pub turns : {xs : List Template} {ts : List Row} → Made (λ x. row_of (itb x)) (λ x. Small (itb x)) xs ts → length xs ≡ places → TurnsTemplates xs ts
-turns {xs} m l = record { rows = m.same ∙ sym (map-map itb row_of xs); long = l; small = all_map (λ x. Small (itb x)) Small itb (λ x s. s) xs m.each }
 
 module _ {xs : List Template} {ts : List Row} (u : TurnsTemplates xs ts) where
   pub turned_long : length ts ≡ places

@@ -10,8 +10,6 @@ use lib.Dec.{eqb, ltb}
 use lib.ListN.{length, take, drop, get_or, set, replicate, length-map, length-take, length-set, drop_of_length-le, take-append-drop, get_or-map}
 use lib.Seq.{take_all, take_at, take-suc, length-take-le, drop-cons, append_snoc, drop-set-lt, take-set-lt, take-suc-set, get_or-take}
 use borrow.Author.Tests.{eq-eqb, ne_eqb, lt-ltb, le-ltb}
-use denote.Param.Members.{Mut, Called}
-use Rattle.std.specs.Array.{IsMapOf}
 use Rattle.std.specs.List.{list_any}
 use Rattle.templates.specs.Templates.{any}
 use Rattle.rows.specs.Rows.{Row, one, two, holds_row, among, map_from}
@@ -205,23 +203,3 @@ ask_end s h = rw (s.first (omega arith), s.second h) refl
 pub any_is : {A : Type 0} (f : A → Bool) (xs : List A) → list_any f xs ≡ any f xs
 any_is f [] = refl
 any_is f (x ∷ xs) = ap (λ b. f x || b) (any_is f xs)
-
--- ---- an array made of another by a call for each of its elements, with a fact of each
-
-pub record Made {A B : Type 0} (f : A → B) (P : A → Type 0) (xs : List A) (ys : List B) : Type 0 where
-  pub same : ys ≡ map f xs
-  pub each : All P xs
-
-module _ {A B : Type 0} (f : A → B) (P : A → Type 0) (d : A) (e : B) where
-  made_of : (xs : List A) (ys : List B) → length ys ≡ length xs → ((i : ℕ) → i < length xs → (get_or ys i e ≡ f (get_or xs i d)) × P (get_or xs i d)) → Made f P xs ys
-  made_of [] [] l h = record { same = refl; each = tt }
-  made_of [] (y ∷ ys) l h = absurd (omega (arith, l))
-  made_of (x ∷ xs) [] l h = absurd (omega (arith, l))
-  made_of (x ∷ xs) (y ∷ ys) l h =
-      let first = h 0 (omega arith) in
-      let rest = made_of xs ys (omega (arith, l)) (λ i b. h (suc i) (omega (arith, b))) in
-      record { same = ap₂ ◌∷◌ first.0 rest.same; each = (first.1, rest.each) }
-
-  pub made_by_calls : {F : Type 0} {g : Mut F (A × Unit {0}) B} {c : F} {xs : List A} {ys : List B} {n : ℕ} → IsMapOf g c xs ys n → length xs ≡ n
-      → ((p : F) (x : A) (y : B) (q : F) → Called g p (x, tt) y q → (y ≡ f x) × P x) → Made f P xs ys
-  made_by_calls {xs = xs} {ys = ys} m l h = made_of xs ys (m.long ∙ sym l) (λ i b. let x = m.at i d e (omega (arith, l, b)) in h x.0 (get_or xs i d) (get_or ys i e) x.1 x.2)

@@ -59,7 +59,8 @@ pub fn hold(rf: &mut [u64], r: Reg, o: Operand)
     }
 }
 
-// The template stands at place p.
+// The template stands at place p. Compiled into its callers: one of them is a loop over all places.
+#[inline(always)]
 pub fn put(ts: &mut [[u64; 3]], p: usize, x: Template)
     ensures { Puts p x ts.old ts.new }
 {

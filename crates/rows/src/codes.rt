@@ -45,7 +45,8 @@ pub(crate) fn head(kind: u8, operation: u8, t: Tag, at: InstrAddr) -> u64
     kind as u64 + 8 * (operation as u64) + 2048 * (t.0 as u64) + 4294967296 * (at.0 as u64)
 }
 
-// The row of a template.
+// The row of a template. Compiled into its callers, as `put` is: by a call each row goes through memory twice more.
+#[inline(always)]
 pub fn row(x: Template) -> [u64; 3]
     ensures { CodesRow (itb x) result }
 {

@@ -196,6 +196,6 @@ pub fn is_sound(s: State, instructions: u32) -> bool
     ensures { result ≡ is_sound instructions s }
 {
     let rf = table::numbers(s.registers);
-    let ts = table::rows(s.templates);
+    let ts = table::rows(&s.templates);
     sound_on(&ts, &rf, s.counter, s.count, instructions)
 }

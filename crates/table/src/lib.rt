@@ -2,10 +2,10 @@
 #![tactic(auto)]
 
 ghost use Rattle.std.specs.Prelude.{◌≡◌};
-ghost use Rattle.templates.specs.Layout.{itb, template};
+ghost use Rattle.templates.specs.Layout.{template};
 ghost use Rattle.rows.specs.Rows.{row_at, itb_of, without};
 ghost use Rattle.rows.specs.Shown.{laid_templates, laid_registers};
-ghost use Rattle.rows.specs.Answers.{CodesRow, Finishes, TurnsRegisters, TurnsTemplates};
+ghost use Rattle.rows.specs.Answers.{Finishes, TurnsRegisters, TurnsTemplates};
 
 use isa::{REGISTERS, Reg};
 use templates::{Operand, PLACES, Register, Template, Work, leaf};
@@ -76,15 +76,22 @@ pub fn numbers(rf: [Register; REGISTERS]) -> [u64; REGISTERS]
     out
 }
 
-// The working table of a state's templates, place by place.
-pub fn rows(ts: [Template; PLACES]) -> [[u64; 3]; PLACES]
-    ensures { TurnsTemplates ts result }
+// The working table of a state's templates, place by place, where it is to stand.
+pub fn turn_in(out: &mut [[u64; 3]; PLACES], ts: &[Template; PLACES])
+    ensures { TurnsTemplates ts.now out.new }
 {
-    ts.map(
-        |x|
-            ensures { CodesRow (itb x) result }
-        { rows::row(x) },
-    )
+    for (i, &x) in ts.iter().enumerate() {
+        rows::put(out, i, x);
+    }
+}
+
+// The same, handed back.
+pub fn rows(ts: &[Template; PLACES]) -> [[u64; 3]; PLACES]
+    ensures { TurnsTemplates ts.now result }
+{
+    let mut out = [rows::BLANK; PLACES];
+    turn_in(&mut out, ts);
+    out
 }
 
 pub fn registers(rf: &[u64]) -> [Register; REGISTERS]
