@@ -1,5 +1,6 @@
 -- Laws that belong to no one function.
 pub mod Basics
+pub mod Numbered
 pub mod Tabulate
 pub mod Leading
 pub mod Bytes
