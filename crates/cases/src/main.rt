@@ -14,6 +14,8 @@
 // kind 8: the operation in the byte, on the two values in the last part
 #![tactic(auto)]
 
+ghost use Rattle.std.specs.Prelude.{◌≤◌, length};
+
 mod answers;
 mod bytes;
 mod show;
@@ -30,7 +32,9 @@ fn head(input: &mut impl Read) -> Record {
 }
 
 // The part, at the buffer's start; one that has no room is left out, and what is printed then differs.
-fn part<'a>(input: &mut impl Read, buf: &'a mut [u8]) -> &'a mut [u8] {
+fn part<'a>(input: &mut impl Read, buf: &'a mut [u8]) -> &'a mut [u8]
+    ensures { length result.now ≤ length buf.old }
+{
     let n = head(input).word as usize;
     if n > buf.len() {
         return &mut buf[..0];

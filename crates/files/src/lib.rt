@@ -1,6 +1,8 @@
 // What the run program does: three files in, the report out.
 #![tactic(auto)]
 
+ghost use Rattle.std.specs.Prelude.{◌≤◌, length};
+
 use std::rt::Files;
 use std::{fs, io};
 
@@ -10,13 +12,17 @@ const FILE: usize = 8193;
 const SCHEDULE: usize = 65537;
 
 // One byte is no whole record, so the report refuses such a file as it refuses any other length.
-fn unreadable(buf: &mut [u8]) -> &mut [u8] {
+fn unreadable(buf: &mut [u8]) -> &mut [u8]
+    ensures { length result.now ≤ length buf.old }
+{
     let n = buf.len().min(1);
     &mut buf[..n]
 }
 
 // The file's bytes, at the buffer's start. A path is text for the library, so one that isn't can't be opened.
-fn load<'a>(rt: &impl Files, path: &[u8], buf: &'a mut [u8]) -> &'a mut [u8] {
+fn load<'a>(rt: &impl Files, path: &[u8], buf: &'a mut [u8]) -> &'a mut [u8]
+    ensures { length result.now ≤ length buf.old }
+{
     let Ok(path) = str::from_utf8(path) else {
         return unreadable(buf);
     };
